@@ -1,0 +1,4 @@
+pub mod Lines
+pub mod Marks
+pub mod Numerals
+pub mod Scanning

@@ -1,0 +1,14 @@
+use Prim.Native.Nat.{_≤_, _-_}
+use mathlib.Core.Path.{_≡_}
+use mathlib.Core.List.{[]}
+use lib.ListN.{length, take, drop}
+use Rattle.sheet_text.specs.Symbols.{symbols}
+use Rattle.sheet_text.specs.Grammar.{quoted}
+use Rattle.sheet_text.proofs.scan.quoted_len.Given as given
+
+-- the field has taken the first n bytes
+abbrev pub Inv-loop-n : given.InvT-loop-n
+Inv-loop-n l = (l .n ≤ length (l .rest)) × (quoted (symbols (l .rest)) [] ≡ quoted (symbols (drop (l .n) (l .rest))) (take (l .n) (l .rest)))
+
+abbrev pub μ-loop-n : given.MeasureT-loop-n
+μ-loop-n l = length (l .rest) - l .n

@@ -1,0 +1,6 @@
+pub mod Symbols
+pub mod Grammar
+pub mod Fields
+pub mod Questions
+pub mod Lines
+pub mod Rows
