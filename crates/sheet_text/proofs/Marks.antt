@@ -89,11 +89,12 @@ closed-unmarked (c ∷ cs) f h n =
 pub stepped : (meaning : Rows) (g : List Symbol → List ℕ → Rows) → Closes g → (xs f : List ℕ) (p k : ℕ) (m : Mark) → p ≤ length xs → meaning ≡ g (symbols (drop p xs)) f → Some (m, k) ≡ mark (drop p xs) → (p + k ≤ length xs) × (0 < length xs → 0 < p + k) × (goes-on m ≡ true → 0 < p + k) × (meaning ≡ continued f m (symbols (drop (p + k) xs)))
 stepped meaning g closes xs f p k m inside read e =
     let w = subst (Marked g closes f (drop p xs)) (sym e) (marked g closes f (drop p xs)) in
-    let len : length (drop p xs) ≡ length xs - p = length-drop p xs in
-    (omega (arith, w .1),
-     λ some. elim (decLt 0 p) [ yes h ↦ omega arith | no h ↦ omega (arith, w .2 (omega arith)) ],
-     λ on. omega (arith, w .3 on),
-     read ∙ w .0 ∙ ap (λ l. continued f m (symbols l)) (drop-drop k p xs))
+    let len : length (drop p xs) ≡ length xs - p = length-drop p xs in (
+      omega (arith, w .1),
+      λ some. elim (decLt 0 p) [ yes h ↦ omega arith | no h ↦ omega (arith, w .2 (omega arith)) ],
+      λ on. omega (arith, w .3 on),
+      read ∙ w .0 ∙ ap (λ l. continued f m (symbols l)) (drop-drop k p xs),
+    )
 
 -- where a field begins without a quotation mark it is a bare one
 field-symbol : (s : Symbol) (ss : List Symbol) → (s ≡ quote → ⊥) → field (s ∷ ss) ≡ bare (s ∷ ss) []
@@ -119,6 +120,7 @@ field-bare (c ∷ cs) h = go (eqb c 13 && begins 10 cs) refl
   where
     lone : c ≡ 34 → ⊥
     lone e = h (omega arith) e
+
     go : (l : Bool) → (eqb c 13 && begins 10 cs) ≡ l → field (symbols (c ∷ cs)) ≡ bare (symbols (c ∷ cs)) []
     go false l = rw (symbols-plain c cs l) (field-symbol (symbol c) (symbols cs) (symbol-other c lone))
     go true l = newline-first cs l

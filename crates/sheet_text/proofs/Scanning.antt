@@ -24,9 +24,9 @@ rest-is n xs = between-to-end xs n (length xs) (le-refl _)
 -- where one byte more is to come, it is the next one to be taken
 pub advance : (xs : List ℕ) (n c : ℕ) (cs : List ℕ) → drop n xs ≡ c ∷ cs → (n < length xs) × (drop (n + 1) xs ≡ cs) × (take (n + 1) xs ≡ take n xs ++ c ∷ [])
 advance xs n c cs e = elim (decLt n (length xs)) [
-    yes h ↦ let d = drop-more xs n 0 h in let t = take-more xs n 0 h in (h, cc, cc)
+  | yes h ↦ let d = drop-more xs n 0 h in let t = take-more xs n 0 h in (h, cc, cc)
   | no h ↦ let a = drop-all n xs (omega arith) in let z : _≡_ {A = ℕ} 0 1 = cc in absurd (omega arith)
-  ]
+]
 
 -- CR and LF together end a line
 pub symbols-newline : (c d : ℕ) (cs : List ℕ) → line-end c d ≡ true → symbols (c ∷ d ∷ cs) ≡ newline ∷ symbols cs
@@ -178,10 +178,11 @@ module _ (xs : List ℕ) (n : ℕ) (inv : Taken xs n) where
           let m′ : d ≡ 34 = let u = t .1 in grind (arith, tells) in
           let two : n + 1 + 1 ≡ n + 2 = omega arith in
           let f : take n xs ++ 34 ∷ 34 ∷ [] ≡ take (n + 1 + 1) xs =
-              ap₂ (λ x y. take n xs ++ x ∷ y ∷ []) (sym m) (sym m′) ∙ sym (append-assoc (take n xs) (c ∷ []) (d ∷ [])) ∙ ap (λ l. l ++ d ∷ []) (sym (a .2)) ∙ sym (a′ .2) in
-          (a′ .0,
-           inv ∙ ap (λ l. quoted (symbols l) (take n xs)) e ∙ quoted-mark c (d ∷ ds) (take n xs) m ∙ closed-mark d ds (take n xs) m′
-           ∙ ap₂ (λ l g. quoted (symbols l) g) (sym (a′ .1)) f ∙ ap (λ k. quoted (symbols (drop k xs)) (take k xs)) two)
+          ap₂ (λ x y. take n xs ++ x ∷ y ∷ []) (sym m) (sym m′) ∙ sym (append-assoc (take n xs) (c ∷ []) (d ∷ [])) ∙ ap (λ l. l ++ d ∷ []) (sym (a .2)) ∙ sym (a′ .2) in (
+            a′ .0,
+            inv ∙ ap (λ l. quoted (symbols l) (take n xs)) e ∙ quoted-mark c (d ∷ ds) (take n xs) m ∙ closed-mark d ds (take n xs) m′
+                ∙ ap₂ (λ l g. quoted (symbols l) g) (sym (a′ .1)) f ∙ ap (λ k. quoted (symbols (drop k xs)) (take k xs)) two,
+          )
 
   -- the scan comes to the text's end with the field open
   pub quoted-open : Nothing ≡ inside (drop n xs) → quoted (symbols xs) [] ≡ wrong

@@ -4,7 +4,6 @@ use Prim.Native.Nat.{ℕ}
 use Rattle.sheet_text.specs.Symbols.{Symbol, quote, comma, newline, byte}
 
 infixr 5 _then_
-
 -- A text's rows, each a list of fields, up to the text's end or up to the first row whose quoting
 -- is wrong; of what follows such a row nothing is told. A field is given by its bytes, without
 -- the quotation marks around it and with doubled ones inside it as they stand.

@@ -12,12 +12,18 @@ use Rattle.std.specs.declared.option.Option.{Option}
 use Rattle.std.specs.declared.option.Option.the-variants.{Some, None}
 use Rattle.sheet.specs.declared.row.Row.{Row}
 use Rattle.sheet_text.specs.declared.line.Line.{Line}
+use Rattle.std.specs.declared.result.Result.{Result}
+use Rattle.std.specs.declared.result.Result.the-variants.{Ok}
+use Rattle.sheet_text.specs.declared.read.Faults.{Faults}
+use Rattle.sheet_text.specs.declared.refusal.Question.the-variants.{FieldCount, Letter, Number}
+use Rattle.sheet_text.specs.declared.refusal.Refusal.{Refusal}
 use Rattle.sheet_text.specs.declared.reader.Reader.{Reader}
 use Rattle.sheet_text.specs.declared.reader.NextRow.{NextRow}
 use Rattle.sheet_text.specs.declared.reader.NextRow.the-variants.{NoRow, Misquoted, Fields}
 use Rattle.sheet_text.specs.Symbols.{symbols}
 use Rattle.sheet_text.specs.Grammar.{Rows, end, wrong, _then_, field, rows}
 use Rattle.sheet_text.specs.Fields.{letter, number}
+use Rattle.sheet_text.specs.Questions.{ask}
 
 -- a row of which no field has been read
 abbrev pub blank : Line
@@ -72,3 +78,20 @@ RowRead text start (Some p) =
     (start < p .1) × (p .1 ≤ length text)
     × (next (field (symbols (drop start text))) ≡ Fields (p .0))
     × (after (field (symbols (drop start text))) ≡ rows (symbols (drop (p .1) text)))
+
+-- the first row at fault: one that was noted before, else this one where something does not hold of it
+abbrev pub noted : Option ℕ → Bool → ℕ → Option ℕ
+noted (Some k) holds row = Some k
+noted None holds row = cond holds None (Some row)
+
+-- no row at fault
+abbrev pub no-faults : Faults
+no-faults = record { «field_count» = None; letter = None; number = None }
+
+-- the first rows at fault, with one row more
+abbrev pub faults-with : Faults → Line → ℕ → Faults
+faults-with f l row = record { «field_count» = noted (f .«field_count») (eqb (l .fields) 6) row; letter = noted (f .letter) (isSome (l .letter)) row; number = noted (f .number) (l .numeric) row }
+
+-- the first question that a row was at fault in, else how many rows there are
+abbrev pub faults-verdict : Faults → ℕ → Result ℕ Refusal
+faults-verdict f n = ask FieldCount (f .«field_count») (ask Letter (f .letter) (ask Number (f .number) (Ok n)))

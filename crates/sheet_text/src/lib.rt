@@ -1,9 +1,11 @@
 //! Sheets as text: rows of six fields, as RFC 4180 has them.
-pub mod refusal;
 mod field;
 mod line;
+mod read;
 mod reader;
+pub mod refusal;
 mod scan;
 
+pub use read::read_sheet;
 pub use refusal::Question;
 pub use refusal::Refusal;

@@ -1,6 +1,7 @@
 ghost use mathlib.Core.Path.{_≡_};
-ghost use Prim.Native.Nat.{_+_, _<_};
+ghost use Prim.Native.Nat.{_+_, _^_, _<_};
 ghost use lib.ListN.{length};
+ghost use Rattle.sheet_text.specs.declared.reader.NextRow.the-variants.{Misquoted};
 ghost use Rattle.sheet_text.specs.Symbols.{symbols};
 ghost use Rattle.sheet_text.specs.Grammar.{rows};
 ghost use Rattle.sheet_text.specs.Lines.{raw};
@@ -69,6 +70,7 @@ impl<'a> Reader<'a> {
         ensures value { λ r. ⌜ r ≡ what-comes (rows-from (now (self .entry))) ⌝ }
         ensures rest { λ r. ⌜ rows-from (now (self .exit)) ≡ after (rows-from (now (self .entry))) ⌝ }
         ensures row { λ r. ⌜ now (self .exit) .row ≡ now (self .entry) .row + rows-read r ⌝ }
+        ensures room { λ r. ⌜ (r ≡ Misquoted → now (self .exit) .row + 1 < 2 ^ 64) ⌝ }
     {
         let input = self.input;
         if self.pos >= input.len() {

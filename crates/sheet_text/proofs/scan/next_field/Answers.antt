@@ -23,7 +23,7 @@ returns-in-Some c =
       moves = λ _. omega arith;
       falls = λ _. omega arith;
       located = s .located;
-      read = field-quoted xs some q ∙ s .read ∙ ap (λ t. continued (raw (step .field)) (step .mark) (symbols t)) (drop-tail xs (step .size) some)
+      read = field-quoted xs some q ∙ s .read ∙ ap (λ t. continued (raw (step .field)) (step .mark) (symbols t)) (drop-tail xs (step .size) some);
     }
 
 pub returns-in-None : need.returns-in-None
