@@ -74,7 +74,7 @@ of-parts l vs = record { letter = valueOr l 0; a = getD vs 0 (pos 0); b = getD v
 -- the row that the fields say
 pub row-gathered : (fs : List (List ℕ)) → row-in (gathered blank fs) ≡ row-of fs
 row-gathered [] = refl
-row-gathered (f ∷ []) = simp (letter-content, number-content)
+row-gathered (f ∷ []) = simp letter-content
 row-gathered (f ∷ g ∷ []) = simp (letter-content, number-content)
 row-gathered (f ∷ g ∷ h ∷ []) = simp (letter-content, number-content)
 row-gathered (f ∷ g ∷ h ∷ i ∷ []) = simp (letter-content, number-content)

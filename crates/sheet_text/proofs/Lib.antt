@@ -1,8 +1,11 @@
 pub mod Contents
+pub mod Decimals
 pub mod Filled
 pub mod Gathered
 pub mod Lines
 pub mod Marks
 pub mod Numerals
+pub mod ReadBack
 pub mod Scanning
 pub mod Surveyed
+pub mod Written

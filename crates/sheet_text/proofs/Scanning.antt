@@ -45,7 +45,7 @@ symbols-plain c [] h = refl
 symbols-plain c (d ∷ ds) h = symbols-apart c d ds h
 
 -- a bare field takes a byte that does not end it
-bare-byte : (c : ℕ) (cs f : List ℕ) → ends-bare (c ∷ cs) ≡ false → bare (symbols (c ∷ cs)) f ≡ bare (symbols cs) (f ++ c ∷ [])
+pub bare-byte : (c : ℕ) (cs f : List ℕ) → ends-bare (c ∷ cs) ≡ false → bare (symbols (c ∷ cs)) f ≡ bare (symbols cs) (f ++ c ∷ [])
 unfolding bare
 bare-byte c cs f h =
     let q : eqb c 34 ≡ false = grind (arith, tells) in
@@ -81,7 +81,7 @@ quoted-newline d ds f e =
     ap (λ x. quoted (symbols ds) (f ++ 13 ∷ x ∷ [])) (sym e) ∙ ap (quoted (symbols ds)) (sym (append-assoc f (13 ∷ []) (d ∷ []))) ∙ sym (ap (λ ss. quoted ss (f ++ 13 ∷ [])) (symbols-plain d ds p) ∙ quoted-symbol d (symbols ds) (f ++ 13 ∷ []) q)
 
 -- a quoted field takes any byte but a quotation mark
-quoted-byte : (c : ℕ) (cs f : List ℕ) → eqb c 34 ≡ false → quoted (symbols (c ∷ cs)) f ≡ quoted (symbols cs) (f ++ c ∷ [])
+pub quoted-byte : (c : ℕ) (cs f : List ℕ) → eqb c 34 ≡ false → quoted (symbols (c ∷ cs)) f ≡ quoted (symbols cs) (f ++ c ∷ [])
 quoted-byte c [] f q =
     let p : (eqb c 13 && false) ≡ false = grind (arith, tells) in
     ap (λ ss. quoted ss f) (symbols-plain c [] p) ∙ quoted-symbol c (symbols []) f q
@@ -95,7 +95,7 @@ quoted-byte c (d ∷ ds) f q = go (line-end c d) refl
         ap (λ ss. quoted ss f) (symbols-newline c d ds l) ∙ quoted-newline d ds f j ∙ ap (λ x. quoted (symbols (d ∷ ds)) (f ++ x ∷ [])) (sym i)
 
 -- a quotation mark inside a quoted field
-quoted-mark : (c : ℕ) (cs f : List ℕ) → c ≡ 34 → quoted (symbols (c ∷ cs)) f ≡ closed (symbols cs) f
+pub quoted-mark : (c : ℕ) (cs f : List ℕ) → c ≡ 34 → quoted (symbols (c ∷ cs)) f ≡ closed (symbols cs) f
 unfolding quoted
 quoted-mark c cs f e =
     let p : (eqb c 13 && begins 10 cs) ≡ false = grind (arith, tells) in

@@ -4,3 +4,4 @@ pub mod Fields
 pub mod Questions
 pub mod Lines
 pub mod Rows
+pub mod Writing

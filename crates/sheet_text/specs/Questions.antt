@@ -108,6 +108,11 @@ filled table wrong = table
 filled [] (fs then rs) = []
 filled (t ∷ ts) (fs then rs) = row-of fs ∷ filled ts rs
 
+-- one of two tables: the first where the reading is granted, else the second
+abbrev pub if-granted : Result ℕ Refusal → List Row → List Row → List Row
+if-granted (Ok n) new old = new
+if-granted (Err r) new old = old
+
 -- the table after reading: filled where the reading is granted, and as it was where it is refused
 abbrev pub table-after : List Row → List ℕ → List Row
-table-after table text = elim (reading (length table) text) [ Ok n ↦ filled table (rows (symbols text)) | Err r ↦ table ]
+table-after table text = if-granted (reading (length table) text) (filled table (rows (symbols text))) table

@@ -1,5 +1,6 @@
 //! Sheets as text: rows of six fields, as RFC 4180 has them.
 mod field;
+pub mod laws;
 mod line;
 mod read;
 mod reader;
