@@ -1,0 +1,3 @@
+pub mod NumberKind
+pub mod Millimetre
+pub mod Metre
