@@ -5,22 +5,16 @@ use Prim.Native.Nat.{ℕ, zero, suc, _*_, _<_}
 use native.Mathlib.Nat.{zero-mul, mul-one}
 use native.Mathlib.Omega.{arith}
 use lib.Dec.{eqb}
-use lib.IntN.{ℤ, pos, negsuc}
 use lib.Ieee.{Float, nan, inf, fin, binary64, eq, ofBits, level, up}
-use lib.Pow.{pow-pos}
+use lib.Ieee.Fits.{up-pos}
 use Rattle.std.proofs.shelf.Bits.{mul-lt}
 use Rattle.std.proofs.shelf.Ways.{tells}
 use Rattle.number.specs.Metre.{zero-float, float-if}
 
--- the whole part of a power of two is positive
-up-pos : (e : ℤ) → 0 < up e
-up-pos (pos k) = pow-pos k
-up-pos (negsuc k) = omega arith
-
 -- a magnitude equals that of +0 exactly where its significand is 0, whatever its sign
 level-zero : (s : Bool) (m u d : ℕ) → 0 < u → level s (m * u * 1) false (0 * d) ≡ eqb m 0
-level-zero true zero u d h = simp (zero-mul, mul-one)
-level-zero false zero u d h = simp (zero-mul, mul-one)
+level-zero true zero u d h = simp zero-mul
+level-zero false zero u d h = simp zero-mul
 level-zero s (suc m) u d h =
     let some : 0 < suc m * u = mul-lt 0 0 (suc m) u (omega arith) h in
     simp (zero-mul, mul-one) (grind (arith, tells))

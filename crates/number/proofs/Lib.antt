@@ -1,2 +1,3 @@
 pub mod Floats
-pub mod Whole
+pub mod FloatLaws
+pub mod Exactness

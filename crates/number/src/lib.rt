@@ -5,6 +5,7 @@
 ghost use mathlib.Core.Path.{_≡_};
 ghost use Rattle.number.specs.NumberKind.{NumberKind};
 
+pub mod laws;
 pub mod metres;
 pub mod millimetres;
 
