@@ -63,10 +63,10 @@ fn quotient(a: i32, b: i32) -> i32
     ensures { λ r. ⌜ r ≡ divided a b ⌝ }
 {
     if b == 0 {
-        0
-    } else if b == -1 {
-        0i32.saturating_sub(a)
-    } else {
-        a / b
+        return 0;
     }
+    if b == -1 {
+        return 0i32.saturating_sub(a);
+    }
+    a / b
 }

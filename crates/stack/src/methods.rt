@@ -25,7 +25,7 @@ impl<'a, T: Copy> BoundedStack<'a, T> {
     pub fn len(&self) -> usize
         ensures { λ r. ⌜ r ≡ length (live (now (self .entry))) ⌝ }
     {
-        self.count
+        self.count // the slice's other places are free
     }
 
     /// Whether there is no place for another element.
