@@ -1,5 +1,6 @@
 //! Metres, as binary64 numbers of IEEE 754: each operation is the exact result, rounded once.
-ghost use Rattle.number.specs.Metre.{metre-kind};
+ghost use mathlib.Core.Path.{_≡_};
+ghost use Rattle.number.specs.Metre.{metre-kind, zero-float, float-if};
 use crate::Number;
 
 #[derive(Clone, Copy)]
@@ -17,7 +18,7 @@ pub impl Number for Metres as MetresNumber {
     }
 
     fn is_zero(self) -> bool {
-        self.length == 0.0
+        equals_zero(self.length)
     }
 
     fn add(self, other: Metres) -> Metres {
@@ -46,7 +47,7 @@ pub impl Number for Metres as MetresNumber {
 
     fn less(self, other: Metres) -> Metres {
         Metres {
-            length: if self.length < other.length { 1.0 } else { 0.0 },
+            length: one_if(self.length < other.length),
         }
     }
 
@@ -59,4 +60,18 @@ pub impl Number for Metres as MetresNumber {
             },
         }
     }
+}
+
+// True at 0 and -0, and at nothing else.
+fn equals_zero(x: f64) -> bool
+    ensures { λ r. ⌜ r ≡ zero-float x ⌝ }
+{
+    x == 0.0
+}
+
+// The answer of a comparison, as a number.
+fn one_if(answer: bool) -> f64
+    ensures { λ r. ⌜ r ≡ float-if answer ⌝ }
+{
+    if answer { 1.0 } else { 0.0 }
 }

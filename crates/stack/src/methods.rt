@@ -3,10 +3,12 @@
 ghost use mathlib.Core.Path.{_≡_};
 ghost use mathlib.Core.Bool.{cond};
 ghost use mathlib.Core.List.{[], _∷_, _++_};
+ghost use Prim.Native.Nat.{_<_};
 ghost use lib.Dec.{leb, ltb};
 ghost use lib.ListN.{length, set};
 ghost use denote.Ref.{name};
 ghost use Rattle.std.specs.Finite.{nth};
+ghost use Rattle.std.specs.declared.option.Option.the-variants.{Some};
 ghost use Rattle.stack.specs.Live.{live, room};
 ghost use Rattle.stack.specs.Ends.{top, below-top, Last-in-first-out};
 use super::BoundedStack;
@@ -42,11 +44,10 @@ impl<'a, T: Copy> BoundedStack<'a, T> {
         ensures answer { λ r. ⌜ r ≡ ltb (length (live (now (self .entry)))) (room (now (self .entry))) ⌝ }
         ensures held { λ r. ⌜ live (now (self .exit)) ≡ cond r (live (now (self .entry)) ++ x ∷ []) (live (now (self .entry))) ⌝ }
     {
-        if self.count >= self.items.len() {
+        if self.is_full() {
             return false;
         }
-        self.items[self.count] = x;
-        self.count += 1;
+        self.grow(x);
         true
     }
 
@@ -57,23 +58,17 @@ impl<'a, T: Copy> BoundedStack<'a, T> {
         ensures answer { λ r. ⌜ r ≡ top (live (now (self .entry))) ⌝ }
         ensures held { λ _. ⌜ live (now (self .exit)) ≡ below-top (live (now (self .entry))) ⌝ }
     {
-        if self.count == 0 {
+        if self.len() == 0 {
             return None;
         }
-        self.count -= 1;
-        Some(self.items[self.count])
+        Some(self.shrink())
     }
 
     /// The element at place `i`, counted from the bottom, if there is one.
     pub fn get(&self, i: usize) -> Option<T>
         ensures { λ r. ⌜ r ≡ nth (live (now (self .entry))) i ⌝ }
     {
-        if i < self.count {
-            let items: &[T] = self.items;
-            Some(items[i])
-        } else {
-            None
-        }
+        element(self.elements(), i)
     }
 
     /// Puts `x` in place of the element at place `i`, and says whether there was one.
@@ -81,13 +76,65 @@ impl<'a, T: Copy> BoundedStack<'a, T> {
         ensures lender { λ _. ⌜ name (now (self .exit) .items) ≡ name (now (self .entry) .items) ⌝ }
         ensures places { λ _. ⌜ room (now (self .exit)) ≡ room (now (self .entry)) ⌝ }
         ensures answer { λ r. ⌜ r ≡ ltb i (length (live (now (self .entry)))) ⌝ }
-        ensures held { λ _. ⌜ live (now (self .exit)) ≡ set (live (now (self .entry))) i x ⌝ }
+        ensures held { λ r. ⌜ live (now (self .exit)) ≡ cond r (set (live (now (self .entry))) i x) (live (now (self .entry))) ⌝ }
     {
-        if i >= self.count {
+        if i >= self.len() {
             return false;
         }
-        self.items[i] = x;
+        self.replace(i, x);
         true
+    }
+
+    // The live elements, as a slice.
+    fn elements(&self) -> &[T]
+        ensures { λ r. ⌜ now r ≡ live (now (self .entry)) ⌝ }
+    {
+        let items: &[T] = self.items;
+        &items[0..self.count]
+    }
+
+    // Puts `x` on top of a stack that has room for it.
+    fn grow(&mut self, x: T)
+        requires { ⌜ length (live (now self)) < room (now self) ⌝ }
+        ensures lender { λ _. ⌜ name (now (self .exit) .items) ≡ name (now (self .entry) .items) ⌝ }
+        ensures places { λ _. ⌜ room (now (self .exit)) ≡ room (now (self .entry)) ⌝ }
+        ensures held { λ _. ⌜ live (now (self .exit)) ≡ live (now (self .entry)) ++ x ∷ [] ⌝ }
+    {
+        self.items[self.count] = x;
+        self.count += 1;
+    }
+
+    // Takes the top element off a stack that has one.
+    fn shrink(&mut self) -> T
+        requires { ⌜ 0 < length (live (now self)) ⌝ }
+        ensures lender { λ _. ⌜ name (now (self .exit) .items) ≡ name (now (self .entry) .items) ⌝ }
+        ensures places { λ _. ⌜ room (now (self .exit)) ≡ room (now (self .entry)) ⌝ }
+        ensures answer { λ r. ⌜ Some r ≡ top (live (now (self .entry))) ⌝ }
+        ensures held { λ _. ⌜ live (now (self .exit)) ≡ below-top (live (now (self .entry))) ⌝ }
+    {
+        self.count -= 1;
+        self.items[self.count]
+    }
+
+    // Puts `x` in place of a live element.
+    fn replace(&mut self, i: usize, x: T)
+        requires { ⌜ i < length (live (now self)) ⌝ }
+        ensures lender { λ _. ⌜ name (now (self .exit) .items) ≡ name (now (self .entry) .items) ⌝ }
+        ensures places { λ _. ⌜ room (now (self .exit)) ≡ room (now (self .entry)) ⌝ }
+        ensures held { λ _. ⌜ live (now (self .exit)) ≡ set (live (now (self .entry))) i x ⌝ }
+    {
+        self.items[i] = x;
+    }
+}
+
+// The element at place `i` of a slice, if there is one.
+fn element<T: Copy>(items: &[T], i: usize) -> Option<T>
+    ensures { λ r. ⌜ r ≡ nth (now (items .entry)) i ⌝ }
+{
+    if i < items.len() {
+        Some(items[i])
+    } else {
+        None
     }
 }
 

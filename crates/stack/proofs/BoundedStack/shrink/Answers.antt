@@ -1,12 +1,13 @@
 use native.Mathlib.Omega.{arith}
 use mathlib.Core.Path.{refl}
 use Prim.Native.Nat.{_<_}
-use Rattle.stack.proofs.Lengths.{top-take, below-top-take}
-use Rattle.stack.proofs.BoundedStack.pop.Needs as need
+use Rattle.stack.proofs.Lengths.{live-length, top-take, below-top-take}
+use Rattle.stack.proofs.BoundedStack.shrink.Needs as need
 
 pub returns : need.returns
 returns g c =
-    let h : 0 < c .args .self .now .count = omega arith in
+    let l = live-length (c .args .self .now) in
+    let h : 0 < c .args .self .now .count = omega (arith, c .pre) in
     record {
       lender = refl;
       places = refl;

@@ -1,5 +1,0 @@
-use Rattle.number.proofs.Floats.{equals-zero}
-use Rattle.number.proofs.metres.MetresNumber.is_zero.Needs as need
-
-pub returns : need.returns
-returns c = equals-zero (c .args .self .length)
