@@ -53,11 +53,7 @@ pub impl Number for Metres as MetresNumber {
 
     fn equal(self, other: Metres) -> Metres {
         Metres {
-            length: if self.length == other.length {
-                1.0
-            } else {
-                0.0
-            },
+            length: one_if(self.length == other.length),
         }
     }
 }
