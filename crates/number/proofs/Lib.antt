@@ -1,0 +1,3 @@
+pub mod Floats
+pub mod FloatLaws
+pub mod Exactness

@@ -1,0 +1,5 @@
+pub mod NumberKind
+pub mod Millimetre
+pub mod Metre
+pub mod MillimetreLaws
+pub mod MetreLaws
