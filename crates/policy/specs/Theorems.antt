@@ -1,0 +1,33 @@
+-- Theorems on flow relations, as the contracts of src/theorems.rt cite them.
+use Prim.Native.Nat.{ℕ}
+use Rattle.policy.specs.Clearances.{clearances-flows}
+use Rattle.policy.specs.Relations.{Transitive, with-pair, without-pair}
+use Rattle.policy.specs.declared.clearances.Clearances.{Clearances}
+use mathlib.Core.Bool.{Bool, false, true}
+use mathlib.Core.Logic.{_⊎_}
+use mathlib.Core.Path.{_≡_}
+
+-- every clearance policy's relation is transitive
+abbrev pub Clearances-are-transitive : Type 0
+Clearances-are-transitive = (p : Clearances) → Transitive (clearances-flows p)
+
+-- a relation with (a, b) has that pair, every pair that it had, and no other
+abbrev pub Adds-one-pair : Type 0
+Adds-one-pair = (f : ℕ → ℕ → Bool) (a b x y : ℕ)
+    → (with-pair f a b a b ≡ true)
+    × (f x y ≡ true → with-pair f a b x y ≡ true)
+    × (with-pair f a b x y ≡ true → (f x y ≡ true) ⊎ ((x ≡ a) × (y ≡ b)))
+    × (f a b ≡ true → with-pair f a b x y ≡ f x y)
+
+-- a relation without (a, b) lacks that pair, has no pair that it lacked, and keeps every other
+abbrev pub Revoking-only-removes : Type 0
+Revoking-only-removes = (f : ℕ → ℕ → Bool) (a b x y : ℕ)
+    → (without-pair f a b a b ≡ false)
+    × (without-pair f a b x y ≡ true → f x y ≡ true)
+    × (f x y ≡ true → (without-pair f a b x y ≡ true) ⊎ ((x ≡ a) × (y ≡ b)))
+
+-- two pairs revoked in either order leave one relation, and a pair revoked twice leaves what once leaves
+abbrev pub Revoking-commutes : Type 0
+Revoking-commutes = (f : ℕ → ℕ → Bool) (a b c d x y : ℕ)
+    → (without-pair (without-pair f a b) c d x y ≡ without-pair (without-pair f c d) a b x y)
+    × (without-pair (without-pair f a b) a b x y ≡ without-pair f a b x y)
