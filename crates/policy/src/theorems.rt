@@ -1,12 +1,7 @@
 // What holds of every policy of a kind. A function here carries a theorem in its contract.
-ghost use Prim.Native.Nat.{ℕ};
 ghost use Rattle.policy.specs.Narrowing.{Narrows};
-ghost use Rattle.policy.specs.PairLists.{pair-list-flows, pair-list-size};
-ghost use Rattle.policy.specs.Relations.{Transitive, only-self, with-pair};
-ghost use Rattle.policy.specs.Theorems.{Adds-one-pair, Clearances-are-transitive, Revoking-commutes, Revoking-only-removes};
+ghost use Rattle.policy.specs.Theorems.{Adds-one-pair, Clearances-are-transitive, Revoking-commutes, Revoking-only-removes, Two-steps};
 ghost use Rattle.std.specs.Results.{Cases};
-ghost use mathlib.Core.Bool.{false, true};
-ghost use mathlib.Core.Path.{_≡_};
 use super::PairList;
 use super::Policy;
 use super::Refusal;
@@ -28,7 +23,7 @@ pub fn allowing_adds_one_pair() -> u8
 
 // The pair list over three labels with (0, 1) and (1, 2): label 0 does not flow to label 2.
 pub fn two_steps() -> Result<PairList, Refusal>
-    ensures { λ r. ⌜ Cases r (λ p. (pair-list-size p ≡ 3) × ((x y : ℕ) → pair-list-flows p x y ≡ with-pair (with-pair (only-self 3) 0 1) 1 2 x y) × (pair-list-flows p 0 2 ≡ false) × (Transitive (pair-list-flows p) → ⊥)) (λ _. ⊥) ⌝ }
+    ensures { λ r. ⌜ Cases r (λ p. Two-steps p) (λ _. ⊥) ⌝ }
 {
     let mut p = PairList::new(3)?;
     p.allow(0, 1)?;

@@ -66,6 +66,7 @@ pub impl Policy for Clearances as ClearancesPolicy {
             return false;
         }
         let set = self.compartments[a as usize];
-        self.ranks[a as usize] <= self.ranks[b as usize] && set & self.compartments[b as usize] == set
+        self.ranks[a as usize] <= self.ranks[b as usize]
+            && set & self.compartments[b as usize] == set
     }
 }
