@@ -31,14 +31,8 @@ pub record Two-steps (p : PairList) : Type 0 where
   pub intransitive : Transitive (pair-list-flows p) → ⊥
 
 -- a relation without (a, b) lacks that pair, has no pair that it lacked, and keeps every other
-abbrev pub Revoking-only-removes : Type 0
-Revoking-only-removes = (f : ℕ → ℕ → Bool) (a b x y : ℕ)
+abbrev pub Removes-one-pair : Type 0
+Removes-one-pair = (f : ℕ → ℕ → Bool) (a b x y : ℕ)
     → (without-pair f a b a b ≡ false)
     × (without-pair f a b x y ≡ true → f x y ≡ true)
     × (f x y ≡ true → (without-pair f a b x y ≡ true) ⊎ ((x ≡ a) × (y ≡ b)))
-
--- two pairs revoked in either order leave one relation, and a pair revoked twice leaves what once leaves
-abbrev pub Revoking-commutes : Type 0
-Revoking-commutes = (f : ℕ → ℕ → Bool) (a b c d x y : ℕ)
-    → (without-pair (without-pair f a b) c d x y ≡ without-pair (without-pair f c d) a b x y)
-    × (without-pair (without-pair f a b) a b x y ≡ without-pair f a b x y)

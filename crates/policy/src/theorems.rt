@@ -1,11 +1,10 @@
 // What holds of every policy of a kind. A function here carries a theorem in its contract.
-ghost use Rattle.policy.specs.Narrowing.{Narrows};
-ghost use Rattle.policy.specs.Theorems.{Adds-one-pair, Clearances-are-transitive, Revoking-commutes, Revoking-only-removes, Two-steps};
+ghost use Rattle.policy.specs.Narrowing.{Adds-no-pair, Commutes, Counts-pairs, Idempotent};
+ghost use Rattle.policy.specs.Theorems.{Adds-one-pair, Clearances-are-transitive, Removes-one-pair, Two-steps};
 ghost use Rattle.std.specs.Results.{Cases};
 use super::PairList;
 use super::Policy;
 use super::Refusal;
-use super::narrowed::Narrowed;
 
 // Ranks and sets of compartments are ordered, so a clearance policy needs no completing.
 pub fn clearances_are_transitive() -> u8
@@ -31,17 +30,25 @@ pub fn two_steps() -> Result<PairList, Refusal>
     Ok(p)
 }
 
-// A narrowed policy has no pair that the policy inside it lacks.
-pub fn narrowing_adds_no_pair<P: Policy>() -> u8
-    ensures { λ _. ⌜ ((s : Narrowed P) → Narrows (P·Policy .flows) s) ⌝ }
+// A pair that is revoked is gone, and nothing else is.
+pub fn revoking_removes_one_pair() -> u8
+    ensures { λ _. ⌜ Removes-one-pair ⌝ }
 {
     0
 }
 
-// Revoking removes one pair at most, in either order the same, and again nothing.
-pub fn revoking_commutes() -> u8
-    ensures only_removes { λ _. ⌜ Revoking-only-removes ⌝ }
-    ensures commutes { λ _. ⌜ Revoking-commutes ⌝ }
+// A narrowed policy has no pair that the policy inside it lacks, and lacks at most 32 that it has.
+pub fn narrowing_adds_no_pair<P: Policy>() -> u8
+    ensures pairs { λ _. ⌜ Adds-no-pair (P·Policy .flows) ⌝ }
+    ensures places { λ _. ⌜ Counts-pairs P ⌝ }
+{
+    0
+}
+
+// Two granted revocations leave the same in either order, and one granted again changes nothing.
+pub fn revoking_commutes<P: Policy>() -> u8
+    ensures commutes { λ _. ⌜ Commutes (P·Policy .flows) ⌝ }
+    ensures idempotent { λ _. ⌜ Idempotent (P·Policy .flows) ⌝ }
 {
     0
 }
