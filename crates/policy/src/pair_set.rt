@@ -1,7 +1,7 @@
 // A set of ordered pairs of numbers below 32: bit b of row a says whether it has (a, b).
 ghost use Prim.Native.Nat.{ℕ, _<_};
 ghost use Rattle.policy.specs.PairSets.{holds};
-ghost use Rattle.policy.specs.Relations.{with-pair};
+ghost use Rattle.policy.specs.Relations.{pairs-in, with-pair};
 ghost use mathlib.Core.Bool.{false};
 ghost use mathlib.Core.Path.{_≡_};
 
@@ -13,7 +13,8 @@ pub(super) struct PairSet {
 impl PairSet {
     // The empty set.
     pub(super) fn new() -> PairSet
-        ensures { λ r. ⌜ ((x y : ℕ) → holds r x y ≡ false) ⌝ }
+        ensures pairs { λ r. ⌜ ((x y : ℕ) → holds r x y ≡ false) ⌝ }
+        ensures count { λ r. ⌜ pairs-in (holds r) ≡ 0 ⌝ }
     {
         PairSet { rows: [0; 32] }
     }

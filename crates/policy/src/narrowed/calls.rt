@@ -1,4 +1,4 @@
-ghost use Prim.Native.Nat.{ℕ};
+ghost use Prim.Native.Nat.{ℕ, _<_};
 ghost use Rattle.policy.specs.Narrowing.{Revokes, inner-of, narrowed-flows, narrowed-size, revoked-of, taken-of};
 ghost use Rattle.policy.specs.Refusals.{revoke-answer};
 ghost use Rattle.std.specs.Results.{Cases};
@@ -44,9 +44,20 @@ impl<P: Policy> Narrowed<P> {
         if self.taken >= 32 {
             return Err(Refusal::RevocationsFull);
         }
+        self.take_place(a, b);
+        Ok(())
+    }
+
+    // Revokes a pair of two labels that has not been revoked yet, where a place is free.
+    fn take_place(&mut self, a: u32, b: u32)
+        requires labels { ⌜ a < 32 ⌝ ∗ ⌜ b < 32 ⌝ }
+        requires different { ⌜ (a ≡ b → ⊥) ⌝ }
+        requires fresh { ⌜ revoked-of (now self) a b ≡ false ⌝ }
+        requires free { ⌜ taken-of (now self) < 32 ⌝ }
+        ensures { λ _. ⌜ Revokes (P·Policy .flows) (now (self .entry)) (now (self .exit)) a b ⌝ }
+    {
         self.revoked.insert(a, b);
         self.taken += 1;
-        Ok(())
     }
 }
 

@@ -10,5 +10,5 @@ pub returns : need.returns
 returns c =
     let room : c .args .a < length (c .args .self .now .rows) = search needs in
     λ x y.
-    let m = marked-bit (c .args .self .now .rows) (c .args .a) (c .args .b) x y room (omega arith) in
+    let bits = marked-bit (c .args .self .now .rows) (c .args .a) (c .args .b) x y room (omega arith) in
     grind (arith, tells)
