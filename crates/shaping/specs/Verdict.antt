@@ -9,6 +9,7 @@ use Rattle.sheet.specs.Sheet.{Sheet, view, first-row, rows-in}
 use Rattle.sheet.specs.Asked.{every, Verdict, asked, once, _then_}
 use Rattle.shaping.specs.declared.question.Question.{Question}
 use Rattle.shaping.specs.declared.question.Question.the-variants.{Letters, Counts, Types, Sites, Nodes, Variables, Entries}
+use Rattle.shaping.specs.declared.counts.Counts.{Counts as Four}
 use Rattle.shaping.specs.Letters.{in-order, within-limits}
 use Rattle.shaping.specs.Types.{lawful-type}
 use Rattle.shaping.specs.Sites.{lawful-site}
@@ -46,3 +47,7 @@ parts-verdict S =
 -- the verdict on rows handed in
 abbrev pub shape-verdict : List Row → Verdict Question
 shape-verdict rs = letters-verdict rs then parts-verdict (view rs)
+
+-- how many there are of each
+abbrev pub counts-of : Sheet → Four
+counts-of S = record { types = S .types; sites = S .sites; nodes = S .nodes; entries = S .entries }

@@ -2,7 +2,7 @@ use mathlib.Core.Path.{_≡_, sym}
 use native.Mathlib.Omega.{arith}
 use Rattle.std.proofs.shelf.Ways.{tells}
 use Rattle.sheet.specs.Sheet.{view}
-use Rattle.shaping.proofs.Steps.{begin-none, begin-step}
+use Rattle.shaping.proofs.Levels.{begin-none, begin-step}
 use Rattle.shaping.proofs.nodes.LawfulNode.+parts_begin.Needs as need
 
 pub returns-then-n-eq0 : need.returns-then-n-eq0

@@ -1,7 +1,7 @@
 use mathlib.Core.Path.{_≡_, sym}
 use native.Mathlib.Omega.{arith}
 use Rattle.sheet.specs.Sheet.{view}
-use Rattle.shaping.proofs.Steps.{nests-none, nests-step}
+use Rattle.shaping.proofs.Levels.{nests-none, nests-step}
 use Rattle.shaping.proofs.types.LawfulType.+nests.Needs as need
 
 pub returns-then-n-eq0 : need.returns-then-n-eq0
