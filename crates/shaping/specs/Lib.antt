@@ -4,3 +4,4 @@ pub mod Sites
 pub mod Nodes
 pub mod Entries
 pub mod Verdict
+pub mod Meaning

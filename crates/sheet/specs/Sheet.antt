@@ -1,7 +1,7 @@
 -- The sheet that the rows say. Everything else is stated of this record: the rules, evaluation, the theorems.
 use mathlib.Core.Bool.{Bool, true, false, cond}
 use mathlib.Core.List.{List, [], _∷_}
-use Prim.Native.Nat.{ℕ, zero, suc, _+_, _-_}
+use Prim.Native.Nat.{ℕ, zero, suc, _+_, _-_, _<_, _≤_}
 use lib.Dec.{eqb, ltb}
 use lib.IntN.{ℤ, pos, negsuc}
 use lib.ListN.{getD, length}
@@ -125,3 +125,12 @@ last-part i = i - 1
 -- the part before the part p: it ends just before p's first node
 abbrev pub part-before : Sheet → ℕ → ℕ
 part-before S p = p - S .node p .size
+
+-- part q of node i, counted from the last, which is part 0
+abbrev pub part : Sheet → ℕ → ℕ → ℕ
+part S i zero = last-part i
+part S i (suc q) = part-before S (part S i q)
+
+-- node j is in the span of node i: it is i, or stands in one of i's parts
+abbrev pub In-span : Sheet → ℕ → ℕ → Type 0
+In-span S i j = (j ≤ i) × (i < j + S .node i .size)
