@@ -7,7 +7,8 @@ use Prim.Native.Nat.{ℕ, _+_, _<_, _≤_}
 use lib.ListN.{getD, length}
 use Rattle.sheet.specs.declared.row.Row.{Row}
 use Rattle.sheet.specs.Asked.{passed}
-use Rattle.sheet.specs.Sheet.{Sheet, view, parts-of, part, In-span}
+use Rattle.sheet.specs.declared.section.Section.the-variants as section
+use Rattle.sheet.specs.Sheet.{Sheet, view, no-row, first-row, parts-of, part, In-span}
 use Rattle.shaping.specs.Letters.{in-order}
 use Rattle.shaping.specs.Types.{lawful-type}
 use Rattle.shaping.specs.Sites.{lawful-site}
@@ -41,6 +42,22 @@ pub record Lawful (rs : List Row) : Type 0 where
 -- rows are shaped exactly when each question holds of each row
 abbrev pub Shaped-exactly : Type 0
 Shaped-exactly = (rs : List Row) → (Is-shaped rs → Lawful rs) × (Lawful rs → Is-shaped rs)
+
+-- the letter of row k
+abbrev pub letter-at : List Row → ℕ → ℕ
+letter-at rs k = getD rs k no-row .letter
+
+-- every row is of one section, and the rows that a section is read off have its letter: T, S, N, E
+pub record Sections (rs : List Row) : Type 0 where
+  pub whole : view rs .types + view rs .sites + view rs .nodes + view rs .entries ≡ view rs .rows
+  pub types : (t : ℕ) → t < view rs .types → letter-at rs (first-row (view rs) section.Types + t) ≡ 84
+  pub sites : (s : ℕ) → s < view rs .sites → letter-at rs (first-row (view rs) section.Sites + s) ≡ 83
+  pub nodes : (i : ℕ) → i < view rs .nodes → letter-at rs (first-row (view rs) section.Nodes + i) ≡ 78
+  pub entries : (e : ℕ) → e < view rs .entries → letter-at rs (first-row (view rs) section.Entries + e) ≡ 69
+
+-- a shaped sheet is read off its rows each under its own letter
+abbrev pub Read-by-letter : Type 0
+Read-by-letter = (rs : List Row) → Is-shaped rs → Sections rs
 
 -- the span of node i lies within that of node j
 abbrev pub Span-within : Sheet → ℕ → ℕ → Type 0
