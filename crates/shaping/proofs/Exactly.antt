@@ -49,6 +49,7 @@ asked-is : (q : Question) (b : ℕ) (p : ℕ → Bool) (n : ℕ) → passed (ask
 unfolding asked
 asked-is q b p n = told-is q b (first-no p 0 n)
 
+-- and so when its test says yes of each
 each-of : (q : Question) (b : ℕ) (p : ℕ → Bool) (n : ℕ) → passed (asked q b p n) ≡ true → Each n p
 each-of q b p n h = every-means p n (sym (asked-is q b p n) ∙ h)
 
@@ -66,6 +67,7 @@ module _ (rs : List Row) where
   abbrev S : Sheet
   S = view rs
 
+  -- the sheet has as many rows as there are
   rows-are : S .rows ≡ length rs
   unfolding view
   rows-are = refl
@@ -95,6 +97,7 @@ module _ (rs : List Row) where
   abbrev v27-cover : Verdict Question
   v27-cover = once Entries (S .rows - 1) (every (covered S) (S .nodes))
 
+  -- the limits as a test and as a fact
   limits-mean : within-limits S ≡ true → From-one 128 (S .types) × From-one 32 (S .sites) × From-one 512 (S .nodes) × From-one 32 (S .entries)
   limits-mean h =
       let a = and-parts _ _ h in
@@ -107,6 +110,7 @@ module _ (rs : List Row) where
       and-from _ _ (count-from 128 (S .types) (h .0)) (and-from _ _ (count-from 32 (S .sites) (h .1))
       (and-from _ _ (count-from 512 (S .nodes) (h .2)) (count-from 32 (S .entries) (h .3))))
 
+  -- from the verdict to each row, and back
   pub lawful : Is-shaped rs → Lawful rs
   lawful h =
       let p = then-parts (letters-verdict rs) (parts-verdict S) h in

@@ -19,9 +19,11 @@ use Rattle.shaping.proofs.Exactly.{lawful}
 use Rattle.shaping.proofs.Spans.{own, within, nesting}
 
 module _ (S : Sheet) (nodes : Each (S .nodes) (lawful-node S)) (entries : Each (S .entries) (lawful-entry S)) (cover : Each (S .nodes) (covered S)) where
+  -- the root of an entry
   abbrev root : ℕ → ℕ
   root e = S .entry e .root
 
+  -- a root is a node
   rooted : (e : ℕ) → e < S .entries → root e < S .nodes
   rooted e l = let h : lawful-entry S e ≡ true = entries e l in grind (arith, tells)
 
@@ -38,6 +40,7 @@ module _ (S : Sheet) (nodes : Each (S .nodes) (lawful-node S)) (entries : Each (
   not-both e f i l k a b =
       ⊎-elim (λ (x : root e < first-of S f). omega (arith, a .0, b .1)) (λ (x : root f < first-of S e). omega (arith, b .0, a .1)) (earlier e f l k)
 
+  -- so entries that share a node are one
   disjoint : (e f i : ℕ) → e < S .entries → f < S .entries → In-tree S e i → In-tree S f i → e ≡ f
   disjoint e f i l k a b =
       ⊎-elim
@@ -45,6 +48,7 @@ module _ (S : Sheet) (nodes : Each (S .nodes) (lawful-node S)) (entries : Each (
       (⊎-elim (λ (x : e < f). absurd (not-both f e i k x b a)) (λ (x : f < e). absurd (not-both e f i l x a b)))
       (cases-order e f)
 
+  -- some entry's tree has the node
   covers : (i : ℕ) → i < S .nodes → (e : ℕ) × (e < S .entries) × In-tree S e i
   unfolding covered
   covers i l =
@@ -55,7 +59,7 @@ module _ (S : Sheet) (nodes : Each (S .nodes) (lawful-node S)) (entries : Each (
       let hi : i ≤ root (z .0) = ltb-false _ _ (o .1) in
       (z .0, z .1, (hi, omega (arith, w .0 .1, w .1)))
 
-  -- a node whose span has an entry's root is in the tree of that entry
+  -- a node whose span has an entry's root is in the tree of that entry, so it is that root
   outermost : (e i : ℕ) → e < S .entries → i < S .nodes → In-span S i (root e) → i ≡ root e
   outermost e i l k h =
       let c = covers i k in
@@ -64,9 +68,11 @@ module _ (S : Sheet) (nodes : Each (S .nodes) (lawful-node S)) (entries : Each (
       let r : root e ≡ root (c .0) = ap root d in
       omega (arith, h .0, c .2 .0)
 
+  -- all of it
   pub forest : Forest S
   forest = record { rooted = rooted; cover = covers; disjoint = disjoint; outermost = outermost }
 
+-- of shaped rows
 pub spans-nest : Spans-nest
 spans-nest rs h = nesting (view rs) (lawful rs h .nodes)
 

@@ -15,6 +15,7 @@ use Rattle.shaping.specs.Letters.{rank, in-order}
 use Rattle.shaping.specs.Meaning.{Is-shaped, Each, letter-at, Sections, Read-by-letter}
 use Rattle.shaping.proofs.Exactly.{lawful}
 
+-- the place of row k's letter
 abbrev rank-at : List Row → ℕ → ℕ
 rank-at rs k = rank (letter-at rs k)
 
@@ -23,9 +24,11 @@ before : ℕ → List Row → ℕ
 before r [] = 0
 before r (x ∷ xs) = cond (ltb (rank (x .letter)) r) (suc (before r xs)) (before r xs)
 
+-- question 21 holds of each row
 abbrev Ordered : List Row → Type 0
 Ordered rs = Each (length rs) (in-order rs)
 
+-- a row in order has one of the four letters, and none that goes before that of the row before
 rank-below : (rs : List Row) (k : ℕ) → in-order rs k ≡ true → rank-at rs k < 4
 rank-below rs k h = ltb-true _ _ (and-parts (ltb (rank-at rs k) 4) _ h .0)
 

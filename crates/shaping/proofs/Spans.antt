@@ -19,6 +19,7 @@ sized-means i s None h = absurd (true≢false (sym h))
 sized-means i s (Some b) h = (b, refl, eqb-true _ _ h)
 
 module _ (S : Sheet) where
+  -- the size of a node
   abbrev size : ℕ → ℕ
   size i = S .node i .size
 
@@ -36,6 +37,7 @@ module _ (S : Sheet) where
       absurd (omega arith))
       (cases-bool (ltb 0 (size (e - 1)) && leb (size (e - 1)) e))
 
+  -- no part: they begin where they end
   begin-zero : (e b : ℕ) → parts-begin S zero e ≡ Some b → e ≡ b
   unfolding parts-begin
   begin-zero e b h = cc
@@ -49,6 +51,7 @@ module _ (S : Sheet) where
   abbrev Between : ℕ → ℕ → ℕ → Type 0
   Between b e p = (p < e) × (1 ≤ size p) × (b + size p ≤ p + 1)
 
+  -- parts begin no later than they end
   begins-before : (n e b : ℕ) → parts-begin S n e ≡ Some b → b ≤ e
   begins-before zero e b h = let x = begin-zero e b h in omega arith
   begins-before (suc n) e b h =
@@ -56,6 +59,7 @@ module _ (S : Sheet) where
       let r = begins-before n (e - size (e - 1)) b (m .2) in
       omega arith
 
+  -- each part lies between where they begin and where they end
   parts-between : (n e b : ℕ) → parts-begin S n e ≡ Some b → (q : ℕ) → q < n → Between b e (part S e q)
   parts-between zero e b h q l = absurd (omega arith)
   parts-between (suc n) e b h zero l =
@@ -87,6 +91,7 @@ module _ (S : Sheet) (ok : Each (S .nodes) (lawful-node S)) where
       let z : sized i (S .node i .size) (parts-begin S (parts-of (S .node i .kind)) i) ≡ true = grind arith in
       sized-means i (S .node i .size) _ z
 
+  -- a node is in its own span, which begins at node 0 or later
   pub own : (i : ℕ) → i < S .nodes → In-span S i i × (S .node i .size ≤ i + 1)
   own i l = let b = begins i l in ((omega arith, omega (arith, b .2)), omega (arith, b .2))
 
@@ -94,6 +99,7 @@ module _ (S : Sheet) (ok : Each (S .nodes) (lawful-node S)) where
   abbrev Nested : ℕ → ℕ → Type 0
   Nested j g = g + S .node j .size ≤ j + S .node g .size
 
+  -- a part stands before its node, and its span does not begin before the node's
   part-nested : (i q : ℕ) → i < S .nodes → q < parts-of (S .node i .kind) → (part S i q < i) × Nested (part S i q) i
   part-nested i q l k =
       let b = begins i l in
@@ -111,6 +117,7 @@ module _ (S : Sheet) (ok : Each (S .nodes) (lawful-node S)) where
       (λ (x : g ≤ j). inl (omega (arith, h .0)))
       (cases-lt j g)
 
+  -- by induction on a bound of the later node
   nested-to : (n j g : ℕ) → g < n → g < S .nodes → In-span S g j → Nested j g
   nested-to zero j g b l h = absurd (omega arith)
   nested-to (suc n) j g b l h =
@@ -138,6 +145,7 @@ module _ (S : Sheet) (ok : Each (S .nodes) (lawful-node S)) where
       (λ (x : i + S .node j .size ≤ j). inr (apart i j o (λ y. omega arith)))
       (cases-lt j (i + S .node j .size))
 
+  -- all of it
   pub nesting : Nesting S
   nesting = record {
     own = own;

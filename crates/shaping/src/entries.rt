@@ -61,6 +61,7 @@ pub struct LawfulEntry<'a> {
 }
 
 impl LawfulEntry<'_> {
+    // The tree of entry e shares no node with that of an earlier one.
     fn apart_from_earlier(&self, e: usize) -> bool
         ensures { λ r. ⌜ r ≡ apart-from-earlier (view (now (now (self .entry) .table .rows))) e ⌝ }
     {

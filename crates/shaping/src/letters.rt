@@ -38,6 +38,7 @@ pub impl Property for InOrder<'_> as InOrderProperty {
     }
 }
 
+// From 1 to the most.
 fn from_one(most: usize, n: usize) -> bool
     ensures { λ r. ⌜ r ≡ from-one most n ⌝ }
 {

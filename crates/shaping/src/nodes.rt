@@ -8,6 +8,7 @@ use sheet::Property;
 use sheet::Table;
 use sheet::sets::set_below;
 
+// From -2^31 to 2^31 - 1.
 fn literal_fits(x: i64) -> bool
     ensures { λ r. ⌜ r ≡ literal-fits x ⌝ }
 {

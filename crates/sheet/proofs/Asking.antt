@@ -59,6 +59,7 @@ first-says p j (suc n) k h =
     (λ (f : p j ≡ false). let e : Some j ≡ Some k = sym (cond-false (p j) (first-no p (j + 1) n) (Some j) f) ∙ h in let q : j ≡ k = cc in ap p (sym q) ∙ f)
     (cases-bool (p j))
 
+-- the first no is none, or some number
 none-means : (o : Option ℕ) → none o ≡ true → o ≡ None
 none-means None h = refl
 none-means (Some k) h = absurd (true≢false (sym h))

@@ -13,6 +13,7 @@ use super::decoded::TypeRow;
 use super::row::Row;
 use super::table::Table;
 
+// Stands for a row that there is none of.
 const NO_ROW: Row = Row {
     letter: '\0',
     a: 0,
@@ -33,6 +34,7 @@ fn natural_of(x: i64) -> usize
     }
 }
 
+// The form of a type, by its number.
 fn form_of(n: usize) -> Form
     ensures { λ r. ⌜ r ≡ form-of n ⌝ }
 {
@@ -44,6 +46,7 @@ fn form_of(n: usize) -> Form
     }
 }
 
+// The kind of a node, by its number.
 fn kind_of(n: usize) -> Kind
     ensures { λ r. ⌜ r ≡ kind-of n ⌝ }
 {
@@ -62,6 +65,7 @@ fn kind_of(n: usize) -> Kind
     }
 }
 
+// A row read as a type.
 fn type_of(r: Row) -> TypeRow
     ensures { λ x. ⌜ x ≡ type-of r ⌝ }
 {
@@ -75,6 +79,7 @@ fn type_of(r: Row) -> TypeRow
     }
 }
 
+// A row read as a site.
 fn site_of(r: Row) -> SiteRow
     ensures { λ x. ⌜ x ≡ site-of r ⌝ }
 {
@@ -87,6 +92,7 @@ fn site_of(r: Row) -> SiteRow
     }
 }
 
+// A row read as a node.
 fn node_of(r: Row) -> NodeRow
     ensures { λ x. ⌜ x ≡ node-of r ⌝ }
 {
@@ -100,6 +106,7 @@ fn node_of(r: Row) -> NodeRow
     }
 }
 
+// A row read as an entry.
 fn entry_of(r: Row) -> EntryRow
     ensures { λ x. ⌜ x ≡ entry-of r ⌝ }
 {

@@ -1,6 +1,7 @@
 // What the rows say, field by field. A number below zero reads as 2^63, which is past every limit;
 // a form or a kind that there is none of reads as `Unknown`.
 
+// The form of a type: 0, 1 and 2 in a row.
 #[derive(Clone, Copy)]
 pub enum Form {
     Number,
@@ -9,6 +10,7 @@ pub enum Form {
     Unknown,
 }
 
+// The kind of a node: 0 to 9 in a row.
 #[derive(Clone, Copy)]
 pub enum Kind {
     Literal,

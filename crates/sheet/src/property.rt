@@ -38,6 +38,7 @@ pub fn all<P: Property>(property: &P, n: usize) -> bool
 }
 
 impl Table<'_> {
+    // The number of the section's first row.
     fn first_row(&self, section: Section) -> usize
         ensures { λ r. ⌜ r ≡ first-row (view (now (now (self .entry) .rows))) section ⌝ }
     {
@@ -49,6 +50,7 @@ impl Table<'_> {
         }
     }
 
+    // How many rows the section has.
     fn rows_in(&self, section: Section) -> usize
         ensures { λ r. ⌜ r ≡ rows-in (view (now (now (self .entry) .rows))) section ⌝ }
     {

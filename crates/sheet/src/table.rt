@@ -5,7 +5,8 @@ ghost use lib.ListN.{length};
 ghost use Rattle.sheet.specs.Sheet.{view};
 use super::row::Row;
 
-// The rows of a sheet, with how many there are of each letter.
+// The rows of a sheet, with how many there are of each letter: any rows make one. The ghost fields say
+// that each count is the one that the sheet read off the rows has, and that the sections fit in.
 #[derive(Clone, Copy)]
 pub struct Table<'a> {
     pub rows: &'a [Row],
