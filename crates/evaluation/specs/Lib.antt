@@ -1,0 +1,4 @@
+pub mod Endings
+pub mod Values
+pub mod Evaluation
+pub mod Runs

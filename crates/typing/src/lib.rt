@@ -1,0 +1,1 @@
+//! The rules of types and control: what fits what, and what each kind of node asks of its parts.
