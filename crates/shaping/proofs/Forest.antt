@@ -9,12 +9,12 @@ use lib.Dec.{ltb}
 use Rattle.std.proofs.shelf.Ways.{tells}
 use Rattle.std.proofs.shelf.Tests.{cases-order, ltb-true, ltb-false, or-cases, or-parts}
 use Rattle.sheet.specs.declared.row.Row.{Row}
-use Rattle.sheet.specs.Asked.{every}
+use Rattle.sheet.specs.Asked.{every, Each}
 use Rattle.sheet.specs.Sheet.{Sheet, view, In-span}
 use Rattle.sheet.proofs.Asking.{every-means, some-no}
 use Rattle.shaping.specs.Nodes.{lawful-node}
 use Rattle.shaping.specs.Entries.{first-of, apart, apart-from-earlier, lawful-entry, outside, covered}
-use Rattle.shaping.specs.Meaning.{Is-shaped, Each, In-tree, Forest, Spans-nest, Trees-cover}
+use Rattle.shaping.specs.Meaning.{Is-shaped, In-tree, Forest, Spans-nest, Trees-cover}
 use Rattle.shaping.proofs.Exactly.{lawful}
 use Rattle.shaping.proofs.Spans.{own, within, nesting}
 

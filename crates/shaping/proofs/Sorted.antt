@@ -10,9 +10,10 @@ use lib.ListN.{length, getD}
 use Rattle.std.proofs.shelf.Ways.{tells}
 use Rattle.std.proofs.shelf.Tests.{and-parts, and-from, ltb-true, leb-true, lt-ltb, le-ltb, le-leb, cond-true, cond-false, cases-lt, cases-order}
 use Rattle.sheet.specs.declared.row.Row.{Row}
+use Rattle.sheet.specs.Asked.{Each}
 use Rattle.sheet.specs.Sheet.{view, no-row, count}
 use Rattle.shaping.specs.Letters.{rank, in-order}
-use Rattle.shaping.specs.Meaning.{Is-shaped, Each, letter-at, Sections, Read-by-letter}
+use Rattle.shaping.specs.Meaning.{Is-shaped, letter-at, Sections, Read-by-letter}
 use Rattle.shaping.proofs.Exactly.{lawful}
 
 -- the place of row k's letter
