@@ -1,15 +1,14 @@
 -- The verdict is yes exactly when each question holds of each row.
 use mathlib.Core.Path.{_≡_, refl, sym, _∙_}
-use mathlib.Core.Bool.{true, _&&_}
+use mathlib.Core.Bool.{true}
 use mathlib.Core.List.{List}
-use Prim.Native.Nat.{ℕ, _-_, _<_, _≤_}
-use native.Mathlib.Omega.{arith}
+use Prim.Native.Nat.{ℕ, _-_}
 use lib.Dec.{leb}
 use lib.ListN.{length}
 use Rattle.std.proofs.shelf.Tests.{leb-true, le-leb, and-parts, and-from}
 use Rattle.sheet.specs.declared.row.Row.{Row}
 use Rattle.sheet.specs.declared.section.Section.the-variants as section
-use Rattle.sheet.specs.Asked.{every, Each, Verdict, once, _then_}
+use Rattle.sheet.specs.Asked.{every, Verdict, once, _then_}
 use Rattle.sheet.specs.Sheet.{Sheet, view}
 use Rattle.sheet.proofs.Asking.{every-means, every-from}
 use Rattle.sheet.proofs.Verdicts.{then-parts, then-from, once-is, each-of, each-from}
@@ -20,7 +19,7 @@ use Rattle.shaping.specs.Types.{lawful-type}
 use Rattle.shaping.specs.Sites.{lawful-site}
 use Rattle.shaping.specs.Nodes.{lawful-node, bound}
 use Rattle.shaping.specs.Entries.{lawful-entry, covered}
-use Rattle.shaping.specs.Verdict.{over, letters-verdict, parts-verdict, shape-verdict}
+use Rattle.shaping.specs.Verdict.{over, letters-verdict, parts-verdict}
 use Rattle.shaping.specs.Meaning.{Is-shaped, From-one, Lawful, Shaped-exactly}
 
 -- a count from 1 to the most

@@ -1,14 +1,13 @@
 -- The parts of a node, and spans that nest.
 use mathlib.Core.Path.{_≡_, refl, sym, ap, subst, _∙_}
-use mathlib.Core.Bool.{Bool, true, false, cond, _&&_}
+use mathlib.Core.Bool.{true, false, _&&_}
 use mathlib.Core.Logic.{_⊎_, inl, inr, ⊎-elim}
 use Prim.Native.Nat.{ℕ, zero, suc, _+_, _-_, _<_, _≤_}
 use native.Mathlib.Omega.{arith}
-use lib.Dec.{eqb, ltb, leb}
+use lib.Dec.{ltb, leb}
 use Rattle.std.specs.declared.option.Option.{Option}
 use Rattle.std.specs.declared.option.Option.the-variants.{None, Some}
 use Rattle.std.proofs.shelf.Tests.{true≢false, cases-lt, cases-bool, cond-true, cond-false, and-parts, ltb-true, leb-true, eqb-true}
-use Rattle.std.proofs.shelf.Ways.{tells}
 use Rattle.sheet.specs.Asked.{Each}
 use Rattle.sheet.specs.Sheet.{Sheet, parts-of, part, part-before, In-span}
 use Rattle.shaping.specs.Nodes.{parts-begin, sized, lawful-node}
