@@ -10,11 +10,11 @@ use std::alloc::Global;
 use std::test::*;
 
 // The letter and the five numbers of a row.
-pub type Fields = (char, [i64; 5]);
+pub(crate) type Fields = (char, [i64; 5]);
 
 // How many places a table has where the number does not matter: one more than the longest text of
 // the tables has rows.
-pub const PLACES: usize = 12;
+pub(crate) const PLACES: usize = 12;
 
 // What stands in every place before a text is read; no text says such a row.
 const UNTOUCHED: Row = Row {
@@ -50,7 +50,7 @@ fn check_table(table: &[Row], rows: &[Fields]) -> Result<(), Fail> {
 
 // Reads a text into a table of `room` places: the answer has to be this one, and the table has to
 // hold these rows and be untouched past them.
-pub fn check_reading(
+pub(crate) fn check_reading(
     heap: Global,
     text: &[u8],
     room: usize,
