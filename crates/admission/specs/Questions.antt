@@ -29,7 +29,7 @@ abbrev pub flows-if : (ℕ → ℕ → Bool) → ℕ → ℕ → ℕ → Bool
 flows-if flows set b a = not (has a set) || flows a b
 
 -- every label of the set flows to label b; there are at most 32 labels
-unfoldable pub all-flow : (ℕ → ℕ → Bool) → ℕ → ℕ → Bool
+abbrev pub all-flow : (ℕ → ℕ → Bool) → ℕ → ℕ → Bool
 all-flow flows set b = every (flows-if flows set b) 32
 
 -- 32: the label of site s is in its content's set

@@ -57,9 +57,9 @@ raised m x =
     record { form = x .form; set = bitOr (x .set) m; argument = x .argument; result = x .result; effect = x .effect; sites = x .sites }
 
 -- type number x fits type number y; types nest at most eight deep
-unfoldable pub fit : Sheet → ℕ → ℕ → Bool
+abbrev pub fit : Sheet → ℕ → ℕ → Bool
 fit S x y = row-fits S 8 (S .type x) (S .type y)
 
 -- type number x raised by m fits type number y
-unfoldable pub raised-fit : Sheet → ℕ → ℕ → ℕ → Bool
+abbrev pub raised-fit : Sheet → ℕ → ℕ → ℕ → Bool
 raised-fit S x m y = row-fits S 8 (raised m (S .type x)) (S .type y)

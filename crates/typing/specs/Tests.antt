@@ -13,7 +13,7 @@ use Rattle.sheet.specs.Sheet.{Sheet, part}
 use Rattle.typing.specs.Fitting.{is-number, is-function, is-reference, fit, raised-fit}
 
 -- the type of node i
-unfoldable pub node-type : Sheet → ℕ → TypeRow
+abbrev pub node-type : Sheet → ℕ → TypeRow
 node-type S i = S .type (S .node i .ty)
 
 -- an argument of type number a goes to a function of type f at node x: a fits f's argument; f's set and the node's control set
@@ -75,7 +75,7 @@ typed-by S i x Operation =
 typed-by S i x Unknown = false
 
 -- 34: node i keeps its type rule
-unfoldable pub typed : Sheet → ℕ → Bool
+abbrev pub typed : Sheet → ℕ → Bool
 typed S i = typed-by S i (S .node i) (S .node i .kind)
 
 -- the control set of node p contains the set c
@@ -102,5 +102,5 @@ controlled-by S i x Operation = under-two S (x .control) i
 controlled-by S i x Unknown = false
 
 -- 35: node i keeps its control rule
-unfoldable pub controlled : Sheet → ℕ → Bool
+abbrev pub controlled : Sheet → ℕ → Bool
 controlled S i = controlled-by S i (S .node i) (S .node i .kind)
