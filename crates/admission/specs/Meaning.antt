@@ -82,3 +82,13 @@ Admitted-keeps-rules =
 -- some policy admits the sheet
 abbrev pub Some-policy-admits : Sheet → Type 0
 Some-policy-admits S = (n : ℕ) × (flows : ℕ → ℕ → Bool) × Policy-law n flows × Is-admitted n flows S
+
+-- in a shaped sheet each type fits itself, and what fits a type that fits a third fits the third
+abbrev pub Fits-preorder : Type 0
+Fits-preorder =
+    (rs : List Row) → Is-shaped rs
+    → ((X : ℕ) → X < view rs .types → Fit (view rs) X X) × ((X Y Z : ℕ) → Fit (view rs) X Y → Fit (view rs) Y Z → Fit (view rs) X Z)
+
+-- some policy under which the sheet keeps the rules
+abbrev pub Keeps : Sheet → Type 0
+Keeps S = (n : ℕ) × (flows : ℕ → ℕ → Bool) × Policy-law n flows × Admissible n flows S
