@@ -2,3 +2,4 @@ pub mod Endings
 pub mod Values
 pub mod Evaluation
 pub mod Runs
+pub mod Fuel

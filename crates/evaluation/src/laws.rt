@@ -1,0 +1,19 @@
+// Laws of evaluation, for every number kind. A function here carries a theorem in its contract.
+ghost use Rattle.evaluation.specs.Fuel.{«Fuel-settles», «Runs-counted», «Runs-settle», «Steps-counted»};
+use number::Number;
+
+// Steps never fall, never pass the fuel, and are as many as the fuel where the fuel is spent.
+pub fn steps_are_counted<K: Number>() -> u8
+    ensures evaluations { λ _. ⌜ Steps-counted (K·Number .kind) ⌝ }
+    ensures runs { λ _. ⌜ Runs-counted (K·Number .kind) ⌝ }
+{
+    0
+}
+
+// More fuel does not change what did not spend its fuel.
+pub fn fuel_settles<K: Number>() -> u8
+    ensures evaluations { λ _. ⌜ Fuel-settles (K·Number .kind) ⌝ }
+    ensures runs { λ _. ⌜ Runs-settle (K·Number .kind) ⌝ }
+{
+    0
+}
