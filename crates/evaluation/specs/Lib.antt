@@ -3,3 +3,4 @@ pub mod Values
 pub mod Evaluation
 pub mod Runs
 pub mod Fuel
+pub mod BigStep

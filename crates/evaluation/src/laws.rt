@@ -1,4 +1,5 @@
 // Laws of evaluation, for every number kind. A function here carries a theorem in its contract.
+ghost use Rattle.evaluation.specs.BigStep.{Deterministic};
 ghost use Rattle.evaluation.specs.Fuel.{«Fuel-settles», «Runs-counted», «Runs-settle», «Steps-counted»};
 use number::Number;
 
@@ -14,6 +15,13 @@ pub fn steps_are_counted<K: Number>() -> u8
 pub fn fuel_settles<K: Number>() -> u8
     ensures evaluations { λ _. ⌜ Fuel-settles (K·Number .kind) ⌝ }
     ensures runs { λ _. ⌜ Runs-settle (K·Number .kind) ⌝ }
+{
+    0
+}
+
+// The big-step relation derives at most one value and one store.
+pub fn deterministic<K: Number>() -> u8
+    ensures { λ _. ⌜ Deterministic (K·Number .kind) ⌝ }
 {
     0
 }
