@@ -2,3 +2,4 @@ pub mod Steps
 pub mod Settled
 pub mod Runs
 pub mod Determinism
+pub mod Soundness

@@ -4,3 +4,4 @@ pub mod Evaluation
 pub mod Runs
 pub mod Fuel
 pub mod BigStep
+pub mod Correspondence
