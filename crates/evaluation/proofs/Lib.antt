@@ -3,3 +3,4 @@ pub mod Settled
 pub mod Runs
 pub mod Determinism
 pub mod Soundness
+pub mod Completeness
