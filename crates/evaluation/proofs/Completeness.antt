@@ -34,7 +34,7 @@ module _ {V : Type 0} where
   provided-true b first other e = ap (λ (x : Bool). provided x first other) e
 
   -- an outcome whose counts are given otherwise
-  counts-as : (v : Value V) (μ : Store V) (b b′ t t′ : ℕ) → b ≡ b′ → t ≡ t′ → done v (at μ b t) ≡ done v (at μ b′ t′)
+  pub counts-as : (v : Value V) (μ : Store V) (b b′ t t′ : ℕ) → b ≡ b′ → t ≡ t′ → done v (at μ b t) ≡ done v (at μ b′ t′)
   counts-as v μ b b′ t t′ p q = cc
 
 module _ (M : NumberKind) (S : Sheet) where

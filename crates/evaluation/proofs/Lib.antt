@@ -4,3 +4,4 @@ pub mod Runs
 pub mod Determinism
 pub mod Soundness
 pub mod Completeness
+pub mod Exactly

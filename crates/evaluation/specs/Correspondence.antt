@@ -6,9 +6,10 @@ use Prim.Native.Nat.{ℕ, suc, _+_, _≤_, max}
 use lib.ListN.{length}
 use Rattle.number.specs.NumberKind.{NumberKind}
 use Rattle.sheet.specs.Sheet.{Sheet}
-use Rattle.evaluation.specs.Values.{Value, Environment, empty, State, Outcome, done}
+use Rattle.evaluation.specs.declared.ending.Ending.the-variants.{Number}
+use Rattle.evaluation.specs.Values.{Value, number, Environment, empty, State, Outcome, done}
 use Rattle.evaluation.specs.Evaluation.{eval, most-pending, most-bindings, most-fresh}
-use Rattle.evaluation.specs.Runs.{run, opening}
+use Rattle.evaluation.specs.Runs.{run, run-report, opening}
 use Rattle.evaluation.specs.BigStep.{Derives, literal, variable, lambda, application, new, channel, read, write, choice-zero, choice-nonzero, operation, Store}
 
 module _ {M : NumberKind} {S : Sheet} where
@@ -80,3 +81,12 @@ Runs-done-exactly M =
     (S : Sheet) (fuel e : ℕ) (ns : List (M .Value)) (v : Value (M .Value)) (s : State (M .Value)) → length ns ≤ S .sites + most-fresh
     → (run M S fuel e ns ≡ done v s → Derived M S fuel most-pending (S .entry e .root) empty (opening ns) v s)
     × (Derived M S fuel most-pending (S .entry e .root) empty (opening ns) v s → run M S fuel e ns ≡ done v s)
+
+-- a run tells the number n after t steps exactly where the relation derives it, by t rules, within the limits
+abbrev pub Numbers-exactly : NumberKind → Type 0
+Numbers-exactly M =
+    (S : Sheet) (fuel e : ℕ) (ns : List (M .Value)) (n : M .Value) (t : ℕ) → length ns ≤ S .sites + most-fresh
+    → (run-report M S fuel e ns ≡ record { ending = Number; number = n; steps = t }
+      → (s : State (M .Value)) × (s .steps ≡ t) × Derived M S fuel most-pending (S .entry e .root) empty (opening ns) (number n) s)
+    × ((s : State (M .Value)) → s .steps ≡ t → Derived M S fuel most-pending (S .entry e .root) empty (opening ns) (number n) s
+      → run-report M S fuel e ns ≡ record { ending = Number; number = n; steps = t })

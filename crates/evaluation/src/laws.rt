@@ -1,5 +1,6 @@
 // Laws of evaluation, for every number kind. A function here carries a theorem in its contract.
 ghost use Rattle.evaluation.specs.BigStep.{Deterministic};
+ghost use Rattle.evaluation.specs.Correspondence.{«Done-exactly», «Numbers-exactly», «Runs-done-exactly»};
 ghost use Rattle.evaluation.specs.Fuel.{«Fuel-settles», «Runs-counted», «Runs-settle», «Steps-counted»};
 use number::Number;
 
@@ -22,6 +23,15 @@ pub fn fuel_settles<K: Number>() -> u8
 // The big-step relation derives at most one value and one store.
 pub fn deterministic<K: Number>() -> u8
     ensures { λ _. ⌜ Deterministic (K·Number .kind) ⌝ }
+{
+    0
+}
+
+// An evaluation is done exactly when the big-step relation derives its value and its store within the limits.
+pub fn done_exactly<K: Number>() -> u8
+    ensures evaluations { λ _. ⌜ Done-exactly (K·Number .kind) ⌝ }
+    ensures runs { λ _. ⌜ Runs-done-exactly (K·Number .kind) ⌝ }
+    ensures numbers { λ _. ⌜ Numbers-exactly (K·Number .kind) ⌝ }
 {
     0
 }
