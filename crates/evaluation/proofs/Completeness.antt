@@ -1,22 +1,19 @@
 -- What the big-step relation derives, evaluation does where the limits leave room for it.
-use mathlib.Core.Path.{_≡_, refl, sym, ap, _∙_}
-use mathlib.Core.List.{List, [], _∷_, _++_}
-use mathlib.Core.Bool.{Bool, true, false, cond}
-use Prim.Native.Nat.{ℕ, zero, suc, _+_, _≤_, _<_, max}
+use mathlib.Core.Path.{_≡_, refl, ap, _∙_}
+use mathlib.Core.List.{[], _∷_, _++_}
+use mathlib.Core.Bool.{Bool, true, cond}
+use Prim.Native.Nat.{ℕ, zero, suc, _+_, _≤_, _<_}
 use native.Mathlib.Omega.{arith}
-use lib.Dec.{eqb, ltb}
+use lib.Dec.{ltb}
 use lib.ListN.{length, set, length-append, length-set}
 use borrow.Author.Tests.{ne-eqb, lt-ltb}
-use Rattle.std.specs.Finite.{nth}
-use Rattle.std.specs.declared.option.Option.{Option}
-use Rattle.std.specs.declared.option.Option.the-variants.{None, Some}
 use Rattle.number.specs.NumberKind.{NumberKind}
 use Rattle.sheet.specs.declared.decoded.Kind.{Kind}
 use Rattle.sheet.specs.declared.decoded.Kind.the-variants.{Literal, Variable, Lambda, Application, New, Channel, Read, Write, Choice, Operation}
 use Rattle.sheet.specs.Sheet.{Sheet, last-part, part}
-use Rattle.evaluation.specs.declared.ending.Stop.the-variants.{FuelSpent, BindingsFull, CellsFull}
-use Rattle.evaluation.specs.Values.{Value, number, closure, reference, Environment, bind, Cell, State, Outcome, done, stopped, Evaluator, lookup, and-then, provided, with-cells, one-step, one-binding}
-use Rattle.evaluation.specs.Evaluation.{found, loaded, stored, apply, create, choose, by-kind, eval, most-bindings, most-fresh}
+use Rattle.evaluation.specs.declared.ending.Stop.the-variants.{FuelSpent}
+use Rattle.evaluation.specs.Values.{Value, number, reference, Environment, bind, Cell, State, Outcome, done, stopped, Evaluator, and-then, provided, one-step}
+use Rattle.evaluation.specs.Evaluation.{found, loaded, stored, by-kind, eval, most-bindings, most-fresh}
 use Rattle.evaluation.specs.BigStep.{Derives, literal, variable, lambda, application, new, channel, read, write, choice-zero, choice-nonzero, operation, Store}
 use Rattle.evaluation.specs.Correspondence.{size, depth, applied}
 
@@ -36,6 +33,10 @@ module _ {V : Type 0} where
   -- an outcome whose counts are given otherwise
   pub counts-as : (v : Value V) (μ : Store V) (b b′ t t′ : ℕ) → b ≡ b′ → t ≡ t′ → done v (at μ b t) ≡ done v (at μ b′ t′)
   counts-as v μ b b′ t t′ p q = cc
+
+  -- a node without parts makes one step and no binding
+  leaf : (v : Value V) (μ : Store V) (b t : ℕ) → done v (at μ b (suc t)) ≡ done v (at μ (b + 0) (t + 1))
+  leaf v μ b t = counts-as v μ b (b + 0) (suc t) (t + 1) (omega arith) (omega arith)
 
 module _ (M : NumberKind) (S : Sheet) where
   -- no rule takes a cell away
@@ -68,17 +69,22 @@ module _ (M : NumberKind) (S : Sheet) where
   start fuel zero i ρ s k r p h e f = absurd (omega arith)
   start fuel (suc d) i ρ s k r p h e f = starts fuel d i ρ s k h e ∙ f d refl
 
+  -- a choice whose condition is done, and whose branch is
+  choice-done : (ev : Evaluator (M .Value)) (i : ℕ) (ρ : Environment (M .Value)) (n : M .Value) (s s₁ : State (M .Value)) (r : Outcome (M .Value)) {b : Bool}
+      → M .is-zero n ≡ b → ev (part S i 2) ρ s ≡ done (number n) s₁ → ev (cond b (part S i 0) (part S i 1)) ρ s₁ ≡ r → by-kind M S ev Choice i ρ s ≡ r
+  choice-done ev i ρ n s s₁ r z p q = then-done _ _ _ p (ap (λ (x : Bool). ev (cond x (part S i 0) (part S i 1)) ρ s₁) z ∙ q)
+
   -- by induction on the derivation: with fuel for its size, places for its depth, and room for its bindings and cells, evaluation does it
   pub completes : {ρ : Environment (M .Value)} {μ : Store (M .Value)} {i : ℕ} {v : Value (M .Value)} {ν : Store (M .Value)}
       (D : Derives M S ρ μ i v ν) (fuel d b t : ℕ) → t + size D ≤ fuel → depth D ≤ d → b + applied D ≤ most-bindings → length ν ≤ S .sites + most-fresh
       → eval M S fuel d i ρ (at μ b t) ≡ done v (at ν (b + applied D) (t + size D))
   completes {ρ} {μ} {i} {v} {ν} (literal e) fuel d b t hs hd hb hc =
-      start fuel d i ρ (at μ b t) Literal _ (omega arith) (omega arith) e (λ d′ q. counts-as _ μ b (b + 0) (suc t) (t + 1) (omega arith) (omega arith))
+      start fuel d i ρ (at μ b t) Literal _ (omega arith) (omega arith) e (λ d′ q. leaf _ μ b t)
   completes {ρ} {μ} {i} {v} {ν} (variable e h) fuel d b t hs hd hb hc =
       start fuel d i ρ (at μ b t) Variable _ (omega arith) (omega arith) e
-      (λ d′ q. ap (found i (at μ b (suc t))) h ∙ counts-as v μ b (b + 0) (suc t) (t + 1) (omega arith) (omega arith))
+      (λ d′ q. ap (found i (at μ b (suc t))) h ∙ leaf v μ b t)
   completes {ρ} {μ} {i} {v} {ν} (lambda e) fuel d b t hs hd hb hc =
-      start fuel d i ρ (at μ b t) Lambda _ (omega arith) (omega arith) e (λ d′ q. counts-as _ μ b (b + 0) (suc t) (t + 1) (omega arith) (omega arith))
+      start fuel d i ρ (at μ b t) Lambda _ (omega arith) (omega arith) e (λ d′ q. leaf _ μ b t)
   completes {ρ} {μ} {i} {v} {ν} (application f ρ′ a μ₁ μ₂ e D₁ D₂ D₃) fuel d b t hs hd hb hc =
       start fuel d i ρ (at μ b t) Application _ (omega arith) (omega arith) e
       (λ d′ q.
@@ -104,7 +110,7 @@ module _ (M : NumberKind) (S : Sheet) where
       (lt-ltb (length μ₁) (S .sites + most-fresh) (omega arith))
       ∙ counts-as _ (μ₁ ++ c ∷ []) _ _ _ _ (omega arith) (omega arith)))
   completes {ρ} {μ} {i} {v} {ν} (channel e) fuel d b t hs hd hb hc =
-      start fuel d i ρ (at μ b t) Channel _ (omega arith) (omega arith) e (λ d′ q. counts-as _ μ b (b + 0) (suc t) (t + 1) (omega arith) (omega arith))
+      start fuel d i ρ (at μ b t) Channel _ (omega arith) (omega arith) e (λ d′ q. leaf _ μ b t)
   completes {ρ} {μ} {i} {v} {ν} (read l c e D k) fuel d b t hs hd hb hc =
       start fuel d i ρ (at μ b t) Read _ (omega arith) (omega arith) e
       (λ d′ q.
@@ -128,18 +134,14 @@ module _ (M : NumberKind) (S : Sheet) where
       let g₂ = never-shrinks D₂ in
       let h₁ = completes D₁ fuel d′ b (suc t) (omega arith) (omega arith) (omega arith) (omega arith) in
       let h₂ = completes D₂ fuel d′ (b + applied D₁) (suc t + size D₁) (omega arith) (omega arith) (omega arith) hc in
-      then-done _ _ _ h₁
-      (ap (λ (x : Bool). eval M S fuel d′ (cond x (part S i 0) (part S i 1)) ρ (at μ₁ (b + applied D₁) (suc t + size D₁))) z
-      ∙ h₂ ∙ counts-as v ν _ _ _ _ (omega arith) (omega arith)))
+      choice-done (eval M S fuel d′) i ρ n _ _ _ z h₁ (h₂ ∙ counts-as v ν _ _ _ _ (omega arith) (omega arith)))
   completes {ρ} {μ} {i} {v} {ν} (choice-nonzero n μ₁ e D₁ z D₂) fuel d b t hs hd hb hc =
       start fuel d i ρ (at μ b t) Choice _ (omega arith) (omega arith) e
       (λ d′ q.
       let g₂ = never-shrinks D₂ in
       let h₁ = completes D₁ fuel d′ b (suc t) (omega arith) (omega arith) (omega arith) (omega arith) in
       let h₂ = completes D₂ fuel d′ (b + applied D₁) (suc t + size D₁) (omega arith) (omega arith) (omega arith) hc in
-      then-done _ _ _ h₁
-      (ap (λ (x : Bool). eval M S fuel d′ (cond x (part S i 0) (part S i 1)) ρ (at μ₁ (b + applied D₁) (suc t + size D₁))) z
-      ∙ h₂ ∙ counts-as v ν _ _ _ _ (omega arith) (omega arith)))
+      choice-done (eval M S fuel d′) i ρ n _ _ _ z h₁ (h₂ ∙ counts-as v ν _ _ _ _ (omega arith) (omega arith)))
   completes {ρ} {μ} {i} {v} {ν} (operation m n μ₁ e D₁ D₂) fuel d b t hs hd hb hc =
       start fuel d i ρ (at μ b t) Operation _ (omega arith) (omega arith) e
       (λ d′ q.

@@ -1,10 +1,8 @@
 -- The big-step relation is deterministic.
 use mathlib.Core.Path.{_≡_, refl, sym, ap, subst, _∙_}
-use mathlib.Core.List.{List, [], _∷_, _++_}
+use mathlib.Core.List.{[], _∷_, _++_}
 use mathlib.Core.Bool.{Bool, true, false, cond}
-use mathlib.Core.Logic.{_⊎_, inl, inr}
 use Prim.Native.Nat.{ℕ}
-use native.Mathlib.Omega.{arith}
 use lib.ListN.{length, set}
 use Rattle.std.specs.Finite.{nth}
 use Rattle.std.specs.declared.option.Option.the-variants.{Some}
@@ -77,6 +75,11 @@ module _ (M : NumberKind) (S : Sheet) where
       subst (λ (x : Environment (M .Value)). Derives M S x μ₁ i₁ v ν) (sym p)
       (subst (λ (x : Store (M .Value)). Derives M S ρ x i₁ v ν) (sym q) (subst (λ (x : ℕ). Derives M S ρ μ x v ν) (sym r) D))
 
+  -- equal conditions choose the same branch
+  branch : (i : ℕ) {m n : M .Value} {b : Bool} → M .is-zero m ≡ b → number m ≡ number n
+      → cond b (part S i 0) (part S i 1) ≡ cond (M .is-zero n) (part S i 0) (part S i 1)
+  branch i {m} {n} {b} z h = let q : b ≡ M .is-zero n = cc in ap (λ (x : Bool). cond x (part S i 0) (part S i 1)) q
+
   -- by induction on the first derivation; the second ends in the same rule
   deterministic-from : (ρ : Environment (M .Value)) (μ : Store (M .Value)) (i : ℕ) (v : Value (M .Value)) (ν : Store (M .Value))
       → Derives M S ρ μ i v ν → (w : Value (M .Value)) (κ : Store (M .Value)) → Derives M S ρ μ i w κ → (v ≡ w) × (ν ≡ κ)
@@ -84,7 +87,6 @@ module _ (M : NumberKind) (S : Sheet) where
       let L = rule Literal ρ μ i w κ e E in (sym (L .0), sym (L .1))
   deterministic-from ρ μ i v ν (variable e h) w κ E =
       let L = rule Variable ρ μ i w κ e E in
-      let l = L .0 in
       (cc, sym (L .1))
   deterministic-from ρ μ i v ν (lambda e) w κ E =
       let L = rule Lambda ρ μ i w κ e E in (sym (L .0), sym (L .1))
@@ -92,66 +94,44 @@ module _ (M : NumberKind) (S : Sheet) where
       let L = rule Application ρ μ i w κ e E in
       let h₁ = deterministic-from ρ μ (part S i 1) (closure f ρ′) μ₁ D₁ (closure (L .0) (L .1)) (L .3) (L .5) in
       let h₂ = deterministic-from ρ μ₁ (part S i 0) a μ₂ D₂ (L .2) (L .4) (moved refl (h₁ .1) refl (L .6)) in
-      let c = h₁ .0 in
-      let b = h₂ .0 in
       let p : bind f a ρ′ ≡ bind (L .0) (L .2) (L .1) = cc in
       let q : f ≡ L .0 = cc in
       deterministic-from (bind f a ρ′) μ₂ (last-part f) v ν D₃ w κ (moved p (h₂ .1) (ap last-part q) (L .7))
   deterministic-from ρ μ i v ν (new a μ₁ e D) w κ E =
       let L = rule New ρ μ i w κ e E in
       let h = deterministic-from ρ μ (part S i 0) a μ₁ D (L .0) (L .1) (L .2) in
-      let c = h .0 in
-      let d = h .1 in
-      let x = L .3 in
-      let y = L .4 in
       (cc, cc)
   deterministic-from ρ μ i v ν (channel e) w κ E =
       let L = rule Channel ρ μ i w κ e E in (sym (L .0), sym (L .1))
   deterministic-from ρ μ i v ν (read l c e D h) w κ E =
       let L = rule Read ρ μ i w κ e E in
       let k = deterministic-from ρ μ (part S i 0) (reference l) ν D (reference (L .0)) κ (L .2) in
-      let x = k .0 in
-      let y = k .1 in
-      let z = L .3 in
-      let u = L .4 in
       let q : c ≡ L .1 = cc in
-      (ap (λ (b : Cell (M .Value)). b .value) q ∙ sym u, y)
+      (ap (λ (b : Cell (M .Value)). b .value) q ∙ sym (L .4), k .1)
   deterministic-from ρ μ i v ν (write l c μ₁ μ₂ e D₁ D₂ h) w κ E =
       let L = rule Write ρ μ i w κ e E in
       let h₁ = deterministic-from ρ μ (part S i 1) (reference l) μ₁ D₁ (reference (L .0)) (L .2) (L .4) in
       let h₂ = deterministic-from ρ μ₁ (part S i 0) v μ₂ D₂ w (L .3) (moved refl (h₁ .1) refl (L .5)) in
-      let x = h₁ .0 in
-      let y = h₂ .0 in
-      let z = h₂ .1 in
-      let u = L .6 in
       let q : c ≡ L .1 = cc in
       let r : c .site ≡ L .1 .site = ap (λ (b : Cell (M .Value)). b .site) q in
-      let t = L .7 in
-      (y, cc)
+      (h₂ .0, cc)
   deterministic-from ρ μ i v ν (choice-zero n μ₁ e D₁ z D₂) w κ E =
       let L = rule Choice ρ μ i w κ e E in
       let h₁ = deterministic-from ρ μ (part S i 2) (number n) μ₁ D₁ (number (L .0)) (L .1) (L .2) in
-      let x = h₁ .0 in
-      let q : true ≡ M .is-zero (L .0) = cc in
       deterministic-from ρ μ₁ (part S i 0) v ν D₂ w κ
-      (moved refl (h₁ .1) (ap (λ (b : Bool). cond b (part S i 0) (part S i 1)) q) (L .3))
+      (moved refl (h₁ .1) (branch i z (h₁ .0)) (L .3))
   deterministic-from ρ μ i v ν (choice-nonzero n μ₁ e D₁ z D₂) w κ E =
       let L = rule Choice ρ μ i w κ e E in
       let h₁ = deterministic-from ρ μ (part S i 2) (number n) μ₁ D₁ (number (L .0)) (L .1) (L .2) in
-      let x = h₁ .0 in
-      let q : false ≡ M .is-zero (L .0) = cc in
       deterministic-from ρ μ₁ (part S i 1) v ν D₂ w κ
-      (moved refl (h₁ .1) (ap (λ (b : Bool). cond b (part S i 0) (part S i 1)) q) (L .3))
+      (moved refl (h₁ .1) (branch i z (h₁ .0)) (L .3))
   deterministic-from ρ μ i v ν (operation m n μ₁ e D₁ D₂) w κ E =
       let L = rule Operation ρ μ i w κ e E in
       let h₁ = deterministic-from ρ μ (part S i 1) (number m) μ₁ D₁ (number (L .0)) (L .2) (L .3) in
       let h₂ = deterministic-from ρ μ₁ (part S i 0) (number n) ν D₂ (number (L .1)) κ (moved refl (h₁ .1) refl (L .4)) in
-      let x = h₁ .0 in
-      let y = h₂ .0 in
       let p : m ≡ L .0 = cc in
       let q : n ≡ L .1 = cc in
-      let u = L .5 in
-      (rw (p, q) (sym u), h₂ .1)
+      (rw (p, q) (sym (L .5)), h₂ .1)
 
 -- the relation is deterministic, for every number kind
 pub deterministic : (M : NumberKind) → Deterministic M

@@ -1,5 +1,5 @@
 -- An evaluation is done exactly where the big-step relation derives the same within the limits.
-use mathlib.Core.Path.{_≡_, refl, sym, ap, subst, _∙_}
+use mathlib.Core.Path.{_≡_, refl, sym, ap, _∙_}
 use mathlib.Core.List.{List, [], _∷_}
 use Prim.Native.Nat.{ℕ, suc, _+_, _≤_}
 use native.Mathlib.Omega.{arith}
@@ -8,10 +8,10 @@ use lib.ListN.{length}
 use Rattle.number.specs.NumberKind.{NumberKind}
 use Rattle.sheet.specs.Sheet.{Sheet}
 use Rattle.evaluation.specs.declared.ending.Ending.the-variants.{Number}
-use Rattle.evaluation.specs.Values.{Value, number, closure, reference, Environment, empty, Cell, State, Outcome, done, stopped}
+use Rattle.evaluation.specs.Values.{Value, number, closure, reference, Environment, empty, State, Outcome, done, stopped}
 use Rattle.evaluation.specs.Evaluation.{eval, most-pending, most-fresh}
 use Rattle.evaluation.specs.Runs.{Report, run, report, opening, site-cells}
-use Rattle.evaluation.specs.Correspondence.{size, depth, applied, Within, Derived, Done-exactly, Runs-done-exactly, Numbers-exactly}
+use Rattle.evaluation.specs.Correspondence.{Within, Derived, Done-exactly, Runs-done-exactly, Numbers-exactly}
 use Rattle.evaluation.proofs.Soundness.{sound, post-done}
 use Rattle.evaluation.proofs.Completeness.{counts-as, completes}
 
@@ -24,9 +24,10 @@ derived-done M S fuel d i ρ s v s′ h =
 
 -- an evaluation is done exactly where the relation derives the same within the limits
 pub done-exactly : (M : NumberKind) → Done-exactly M
-done-exactly M S fuel d i ρ s v s′ w =
-    ( (λ e. post-done (Derived M S fuel d i ρ s) (eval M S fuel d i ρ s) v s′ e (sound M S fuel d i ρ s w))
-    , derived-done M S fuel d i ρ s v s′)
+done-exactly M S fuel d i ρ s v s′ w = (
+  (λ e. post-done (Derived M S fuel d i ρ s) (eval M S fuel d i ρ s) v s′ e (sound M S fuel d i ρ s w)),
+  derived-done M S fuel d i ρ s v s′,
+)
 
 -- a run begins with a cell for each number
 length-site-cells : {V : Type 0} (k : ℕ) (ns : List V) → length (site-cells k ns) ≡ length ns
@@ -60,7 +61,8 @@ reports z n t s o p q = ap (report z) q ∙ ap (λ (u : ℕ). record { ending = 
 -- a run tells a number exactly where the relation derives it within the limits
 pub numbers-exactly : (M : NumberKind) → Numbers-exactly M
 numbers-exactly M S fuel e ns n t h =
-    let z : M .Value = M .whole (pos 0) in
-    ( (λ r. let found = reported z n t (run M S fuel e ns) r in
-            (found .0, found .1, runs-done-exactly M S fuel e ns (number n) (found .0) h .0 (found .2)))
-    , (λ s p d. reports z n t s (run M S fuel e ns) p (runs-done-exactly M S fuel e ns (number n) s h .1 d)))
+    let z : M .Value = M .whole (pos 0) in (
+      (λ r. let found = reported z n t (run M S fuel e ns) r in
+          (found .0, found .1, runs-done-exactly M S fuel e ns (number n) (found .0) h .0 (found .2))),
+      (λ s p d. reports z n t s (run M S fuel e ns) p (runs-done-exactly M S fuel e ns (number n) s h .1 d)),
+    )

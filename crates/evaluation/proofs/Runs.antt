@@ -1,8 +1,6 @@
 -- The steps of a run, and what more fuel does to it.
-use mathlib.Core.Path.{_≡_, refl, sym, ap, _∙_}
-use mathlib.Core.List.{List}
+use mathlib.Core.Path.{_≡_, refl, ap, _∙_}
 use mathlib.Core.Bool.{Bool, true, false}
-use mathlib.Core.Logic.{_≢_}
 use Prim.Native.Nat.{ℕ, zero, suc, _≤_, _<_}
 use native.Mathlib.Omega.{arith}
 use lib.Dec.{eqb}
@@ -13,9 +11,9 @@ use Rattle.sheet.specs.Sheet.{Sheet}
 use Rattle.evaluation.specs.declared.ending.Stop.the-variants.{FuelSpent}
 use Rattle.evaluation.specs.declared.ending.Ending.the-variants.{Stopped}
 use Rattle.evaluation.specs.Values.{Value, number, closure, reference, Environment, empty, State, Outcome, done, stopped, provided, one-step}
-use Rattle.evaluation.specs.Evaluation.{by-kind, eval, most-pending}
-use Rattle.evaluation.specs.Runs.{run, run-report, report, opening}
-use Rattle.evaluation.specs.Fuel.{steps-of, Spent, Counted, Run-counted, Runs-counted, Runs-settle}
+use Rattle.evaluation.specs.Evaluation.{eval, most-pending}
+use Rattle.evaluation.specs.Runs.{run, report, opening}
+use Rattle.evaluation.specs.Fuel.{steps-of, Spent, Counted, Runs-counted, Runs-settle}
 use Rattle.evaluation.proofs.Steps.{counted-by-kind, counts}
 use Rattle.evaluation.proofs.Settled.{settles}
 

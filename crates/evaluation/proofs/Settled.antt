@@ -1,7 +1,7 @@
 -- More fuel does not change an evaluation that did not spend its fuel.
-use mathlib.Core.Path.{_≡_, refl, sym, ap, _∙_}
+use mathlib.Core.Path.{_≡_, refl, ap, _∙_}
 use mathlib.Core.Bool.{Bool, true, false, cond}
-use Prim.Native.Nat.{ℕ, zero, suc, _+_, _≤_, _<_}
+use Prim.Native.Nat.{ℕ, zero, suc, _≤_}
 use native.Mathlib.Omega.{arith}
 use lib.Dec.{eqb, ltb}
 use borrow.Author.Tests.{eqb-false, ne-eqb}
@@ -9,11 +9,10 @@ use Rattle.number.specs.NumberKind.{NumberKind}
 use Rattle.sheet.specs.declared.decoded.Kind.{Kind}
 use Rattle.sheet.specs.declared.decoded.Kind.the-variants.{Literal, Variable, Lambda, Application, New, Channel, Read, Write, Choice, Operation, Unknown}
 use Rattle.sheet.specs.Sheet.{Sheet, last-part, part}
-use Rattle.evaluation.specs.declared.ending.Stop.{Stop}
 use Rattle.evaluation.specs.declared.ending.Stop.the-variants.{FuelSpent, PendingFull}
 use Rattle.evaluation.specs.Values.{Value, number, closure, reference, Environment, bind, State, Outcome, done, stopped, Evaluator, and-then, provided, one-step, one-binding}
-use Rattle.evaluation.specs.Evaluation.{load, store, apply, create, choose, operate, by-kind, eval, most-bindings}
-use Rattle.evaluation.specs.Fuel.{steps-of, Spent, Counted, Fuel-settles}
+use Rattle.evaluation.specs.Evaluation.{apply, choose, by-kind, eval, most-bindings}
+use Rattle.evaluation.specs.Fuel.{Spent, Counted, Fuel-settles}
 use Rattle.evaluation.proofs.Steps.{Counts, counts}
 
 module _ {V : Type 0} where
@@ -41,6 +40,7 @@ module _ {V : Type 0} where
   settled-provided true first first′ other h = h
   settled-provided false first first′ other h = λ _. refl
 
+  -- two applications of one function to one argument
   settled-apply : (fuel : ℕ) (ev ev′ : Evaluator V) → Settles fuel ev ev′ → (i : ℕ) (f v : Value V) (s : State V) → s .steps ≤ fuel
       → Settled (apply ev i f v s) (apply ev′ i f v s)
   settled-apply fuel ev ev′ ih i (number n) v s l = λ _. refl
@@ -51,6 +51,7 @@ module _ {V : Type 0} where
   settled-apply fuel ev ev′ ih i (reference a) v s l = λ _. refl
 
 module _ (M : NumberKind) (S : Sheet) (fuel : ℕ) (ev ev′ : Evaluator (M .Value)) (count : Counts fuel ev) (ih : Settles fuel ev ev′) where
+  -- two choices by one condition
   settled-choose : (i : ℕ) (ρ : Environment (M .Value)) (v : Value (M .Value)) (s : State (M .Value)) → s .steps ≤ fuel
       → Settled (choose M S ev i ρ v s) (choose M S ev′ i ρ v s)
   settled-choose i ρ (number n) s l = ih _ ρ s l
@@ -86,11 +87,13 @@ module _ (M : NumberKind) (S : Sheet) (fuel more : ℕ) (larger : fuel ≤ more)
   still-fuel : (t : ℕ) → t ≤ fuel → eqb t fuel ≡ false → eqb t more ≡ false
   still-fuel t l e = let ne : t ≡ fuel → ⊥ = eqb-false t fuel e in ne-eqb t more (λ q. omega arith)
 
+  -- two starts with no place left
   settled-no-place : (t : ℕ) (b : Bool) → eqb t fuel ≡ b → t ≤ fuel
       → Settled {V = M .Value} (cond b (stopped FuelSpent t) (stopped PendingFull t)) (cond (eqb t more) (stopped FuelSpent t) (stopped PendingFull t))
   settled-no-place t true e l n = absurd (n refl)
   settled-no-place t false e l n = let q = still-fuel t l e in rw q
 
+  -- two starts of a node
   settled-start : (t : ℕ) (b : Bool) → eqb t fuel ≡ b → t ≤ fuel → (o o′ : Outcome (M .Value)) → (suc t ≤ fuel → Settled o o′)
       → Settled (provided b (λ _. stopped FuelSpent t) o) (provided (eqb t more) (λ _. stopped FuelSpent t) o′)
   settled-start t true e l o o′ h n = absurd (n refl)

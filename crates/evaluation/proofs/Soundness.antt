@@ -1,11 +1,11 @@
 -- What evaluation does, the big-step relation derives, and within the limits.
-use mathlib.Core.Path.{_≡_, refl, sym, ap, subst, _∙_}
-use mathlib.Core.List.{List, [], _∷_, _++_}
+use mathlib.Core.Path.{_≡_, refl, subst}
+use mathlib.Core.List.{[], _∷_, _++_}
 use mathlib.Core.Bool.{Bool, true, false, cond}
-use Prim.Native.Nat.{ℕ, zero, suc, _+_, _≤_, _<_, max}
+use Prim.Native.Nat.{ℕ, zero, suc, _+_, _≤_, _<_}
 use native.Mathlib.Omega.{arith}
 use lib.Dec.{eqb, ltb}
-use lib.ListN.{length, set, length-append, length-set}
+use lib.ListN.{length, length-append, length-set}
 use borrow.Author.Tests.{eqb-false, ltb-true}
 use Rattle.std.specs.Finite.{nth}
 use Rattle.std.specs.declared.option.Option.{Option}
@@ -14,10 +14,10 @@ use Rattle.number.specs.NumberKind.{NumberKind}
 use Rattle.sheet.specs.declared.decoded.Kind.{Kind}
 use Rattle.sheet.specs.declared.decoded.Kind.the-variants.{Literal, Variable, Lambda, Application, New, Channel, Read, Write, Choice, Operation, Unknown}
 use Rattle.sheet.specs.Sheet.{Sheet, last-part, part}
-use Rattle.evaluation.specs.declared.ending.Stop.the-variants.{FuelSpent, PendingFull, BindingsFull, CellsFull}
+use Rattle.evaluation.specs.declared.ending.Stop.the-variants.{FuelSpent, PendingFull}
 use Rattle.evaluation.specs.Values.{Value, number, closure, reference, Environment, bind, Cell, State, Outcome, done, stopped, Evaluator, lookup, and-then, provided, with-cells, one-step, one-binding}
 use Rattle.evaluation.specs.Evaluation.{found, load, loaded, store, stored, apply, create, choose, operate, by-kind, eval, most-bindings, most-fresh}
-use Rattle.evaluation.specs.BigStep.{Derives, literal, variable, lambda, application, new, channel, read, write, choice-zero, choice-nonzero, operation, Store}
+use Rattle.evaluation.specs.BigStep.{Derives, literal, variable, lambda, application, new, channel, read, write, choice-zero, choice-nonzero, operation}
 use Rattle.evaluation.specs.Correspondence.{size, depth, applied, Within, Derived}
 
 module _ {V : Type 0} where
@@ -60,6 +60,7 @@ module _ (M : NumberKind) (S : Sheet) (fuel d : ℕ) where
       → Derived M S fuel (suc d) i ρ s v (one-step s)
   sound-leaf i ρ s v w D a b c = record { derivation = D; steps = omega arith; bindings = omega arith; places = omega arith; limits = w }
 
+  -- the rule for a variable
   sound-found : (i : ℕ) (ρ : Environment (M .Value)) (s : State (M .Value)) → S .node i .kind ≡ Variable → Within S fuel (one-step s)
       → (o : Option (Value (M .Value))) → lookup (S .node i .argument) ρ ≡ o → Post (Derived M S fuel (suc d) i ρ s) (found i (one-step s) o)
   sound-found i ρ s e w None h = tt
@@ -84,20 +85,21 @@ module _ (M : NumberKind) (S : Sheet) (fuel d i : ℕ) (ρ : Environment (M .Val
       })
       (λ _. tt)
 
-  -- the rule for read, after its part
+  -- the rule for read, after its part, at the cell that the reference names
   sound-loaded : S .node i .kind ≡ Read → (l : ℕ) (s₁ : State (M .Value)) → Derived M S fuel d (part S i 0) ρ (one-step s) (reference l) s₁
       → (o : Option (Cell (M .Value))) → nth (s₁ .cells) l ≡ o → Post (Derived M S fuel (suc d) i ρ s) (loaded i s₁ o)
   sound-loaded e l s₁ h None q = tt
   sound-loaded e l s₁ h (Some c) q =
       record { derivation = read l c e (h .derivation) q; steps = omega arith; bindings = omega arith; places = omega arith; limits = h .limits }
 
+  -- the rule for read, whatever the value of its part
   sound-load : S .node i .kind ≡ Read → (r : Value (M .Value)) (s₁ : State (M .Value)) → Derived M S fuel d (part S i 0) ρ (one-step s) r s₁
       → Post (Derived M S fuel (suc d) i ρ s) (load i r s₁)
   sound-load e (number n) s₁ h = tt
   sound-load e (closure f ρ′) s₁ h = tt
   sound-load e (reference l) s₁ h = sound-loaded e l s₁ h (nth (s₁ .cells) l) refl
 
-  -- the rule for write, after its parts
+  -- the rule for write, after its parts, at the cell that the reference names
   sound-stored : S .node i .kind ≡ Write → (l : ℕ) (v : Value (M .Value)) (s₁ s₂ : State (M .Value))
       → Derived M S fuel d (part S i 1) ρ (one-step s) (reference l) s₁ → Derived M S fuel d (part S i 0) ρ s₁ v s₂
       → (o : Option (Cell (M .Value))) → nth (s₂ .cells) l ≡ o → Post (Derived M S fuel (suc d) i ρ s) (stored i l v s₂ o)
@@ -111,6 +113,7 @@ module _ (M : NumberKind) (S : Sheet) (fuel d i : ℕ) (ρ : Environment (M .Val
         limits = record { steps = k .limits .steps; bindings = k .limits .bindings; cells = rw length-set (k .limits .cells) };
       }
 
+  -- the rule for write, whatever the value of its first part
   sound-store : S .node i .kind ≡ Write → (r v : Value (M .Value)) (s₁ s₂ : State (M .Value))
       → Derived M S fuel d (part S i 1) ρ (one-step s) r s₁ → Derived M S fuel d (part S i 0) ρ s₁ v s₂
       → Post (Derived M S fuel (suc d) i ρ s) (store i r v s₂)
@@ -150,7 +153,7 @@ module _ (M : NumberKind) (S : Sheet) (fuel d i : ℕ) (ρ : Environment (M .Val
       (λ _. tt)
   sound-apply ev ih e (reference a) v s₁ s₂ h k = tt
 
-  -- the rules for a choice, after its condition
+  -- the rules for a choice, after its condition, which is a number
   sound-chosen : (ev : Evaluator (M .Value)) → Sound M S fuel d ev → S .node i .kind ≡ Choice → (n : M .Value) (s₁ : State (M .Value))
       → Derived M S fuel d (part S i 2) ρ (one-step s) (number n) s₁
       → (b : Bool) → M .is-zero n ≡ b → Post (Derived M S fuel (suc d) i ρ s) (ev (cond b (part S i 0) (part S i 1)) ρ s₁)
@@ -173,6 +176,7 @@ module _ (M : NumberKind) (S : Sheet) (fuel d i : ℕ) (ρ : Environment (M .Val
         limits = k .limits;
       })
 
+  -- the rules for a choice, whatever the value of its condition
   sound-choose : (ev : Evaluator (M .Value)) → Sound M S fuel d ev → S .node i .kind ≡ Choice → (c : Value (M .Value)) (s₁ : State (M .Value))
       → Derived M S fuel d (part S i 2) ρ (one-step s) c s₁ → Post (Derived M S fuel (suc d) i ρ s) (choose M S ev i ρ c s₁)
   sound-choose ev ih e (number n) s₁ h = sound-chosen ev ih e n s₁ h (M .is-zero n) refl

@@ -1,12 +1,11 @@
 -- The steps of an evaluation are counted: they never fall, never pass the fuel, and equal it where it is spent.
-use mathlib.Core.Path.{_≡_, refl, sym, ap, _∙_}
-use mathlib.Core.List.{List, [], _∷_, _++_}
+use mathlib.Core.Path.{_≡_, refl}
+use mathlib.Core.List.{[], _∷_, _++_}
 use mathlib.Core.Bool.{Bool, true, false, cond}
-use Prim.Native.Nat.{ℕ, zero, suc, _+_, _≤_, _<_}
+use Prim.Native.Nat.{ℕ, zero, suc, _+_, _≤_}
 use native.Mathlib.Omega.{arith}
 use lib.Dec.{eqb, ltb}
 use lib.ListN.{length}
-use lib.IntN.{pos}
 use borrow.Author.Tests.{eqb-true, eqb-false}
 use Rattle.std.specs.Finite.{nth}
 use Rattle.std.specs.declared.option.Option.{Option}
@@ -14,14 +13,12 @@ use Rattle.std.specs.declared.option.Option.the-variants.{None, Some}
 use Rattle.number.specs.NumberKind.{NumberKind}
 use Rattle.sheet.specs.declared.decoded.Kind.{Kind}
 use Rattle.sheet.specs.declared.decoded.Kind.the-variants.{Literal, Variable, Lambda, Application, New, Channel, Read, Write, Choice, Operation, Unknown}
-use Rattle.sheet.specs.Sheet.{Sheet, last-part, part}
+use Rattle.sheet.specs.Sheet.{Sheet, last-part}
 use Rattle.evaluation.specs.declared.ending.Stop.{Stop}
 use Rattle.evaluation.specs.declared.ending.Stop.the-variants.{FuelSpent, PendingFull, BindingsFull, CellsFull, Stuck}
-use Rattle.evaluation.specs.declared.ending.Ending.the-variants.{Stopped}
-use Rattle.evaluation.specs.Values.{Value, number, closure, reference, Environment, empty, bind, Cell, State, Outcome, done, stopped, Evaluator, lookup, and-then, provided, with-cells, one-step, one-binding}
-use Rattle.evaluation.specs.Evaluation.{found, load, loaded, store, stored, apply, create, choose, operate, by-kind, eval, most-pending, most-bindings, most-fresh}
-use Rattle.evaluation.specs.Runs.{run, report, opening}
-use Rattle.evaluation.specs.Fuel.{steps-of, Spent, Counted, Steps-counted, Run-counted, Runs-counted}
+use Rattle.evaluation.specs.Values.{Value, number, closure, reference, Environment, bind, Cell, State, Outcome, done, stopped, Evaluator, and-then, provided, with-cells, one-step, one-binding}
+use Rattle.evaluation.specs.Evaluation.{found, load, loaded, store, stored, apply, create, choose, operate, by-kind, eval, most-bindings, most-fresh}
+use Rattle.evaluation.specs.Fuel.{Counted}
 
 -- `ev` counts its steps
 abbrev pub Counts : {V : Type 0} → ℕ → Evaluator V → Type 0
@@ -44,6 +41,7 @@ module _ {V : Type 0} (fuel : ℕ) where
     spent = λ q. absurd (other (cc));
   }
 
+  -- a value of the wrong form
   pub counted-stuck : (i t : ℕ) → Counted {V = V} fuel t (stopped (Stuck i) t)
   counted-stuck i t = counted-stop (Stuck i) t (λ e. let z : _≡_ {A = ℕ} 0 1 = cc in absurd (omega arith))
 
@@ -71,28 +69,34 @@ module _ {V : Type 0} (fuel : ℕ) where
   counted-provided from true first other h k = h
   counted-provided from false first other h k = k
 
+  -- a variable
   counted-found : (i : ℕ) (s : State V) (o : Option (Value V)) → Counted fuel (s .steps) (found i s o)
   counted-found i s None = counted-stuck i (s .steps)
   counted-found i s (Some v) = counted-done v s
 
+  -- a read from the cell that the reference names, if there is one
   counted-loaded : (i : ℕ) (s : State V) (o : Option (Cell V)) → Counted fuel (s .steps) (loaded i s o)
   counted-loaded i s None = counted-stuck i (s .steps)
   counted-loaded i s (Some c) = counted-done (c .value) s
 
+  -- a read
   counted-load : (i : ℕ) (r : Value V) (s : State V) → Counted fuel (s .steps) (load i r s)
   counted-load i (number n) s = counted-stuck i (s .steps)
   counted-load i (closure f ρ) s = counted-stuck i (s .steps)
   counted-load i (reference a) s = counted-loaded i s (nth (s .cells) a)
 
+  -- a write to the cell that the reference names, if there is one
   counted-stored : (i a : ℕ) (v : Value V) (s : State V) (o : Option (Cell V)) → Counted fuel (s .steps) (stored i a v s o)
   counted-stored i a v s None = counted-stuck i (s .steps)
   counted-stored i a v s (Some c) = counted-done v _
 
+  -- a write
   counted-store : (i : ℕ) (r v : Value V) (s : State V) → Counted fuel (s .steps) (store i r v s)
   counted-store i (number n) v s = counted-stuck i (s .steps)
   counted-store i (closure f ρ) v s = counted-stuck i (s .steps)
   counted-store i (reference a) v s = counted-stored i a v s (nth (s .cells) a)
 
+  -- an application: the body counts too
   counted-apply : (ev : Evaluator V) → Counts fuel ev → (i : ℕ) (f v : Value V) (s : State V) → Counted fuel (s .steps) (apply ev i f v s)
   counted-apply ev ih i (number n) v s = counted-stuck i (s .steps)
   counted-apply ev ih i (closure f ρ) v s =
@@ -102,6 +106,7 @@ module _ {V : Type 0} (fuel : ℕ) where
   counted-apply ev ih i (reference a) v s = counted-stuck i (s .steps)
 
 module _ (M : NumberKind) (S : Sheet) (fuel : ℕ) where
+  -- a new cell, where there is room
   counted-create : (i : ℕ) (v : Value (M .Value)) (s : State (M .Value)) → Counted fuel (s .steps) (create M S i v s)
   counted-create i v s =
       let made : State (M .Value) = with-cells s (s .cells ++ record { site = S .node i .argument; value = v } ∷ []) in
@@ -109,6 +114,7 @@ module _ (M : NumberKind) (S : Sheet) (fuel : ℕ) where
       (counted-done fuel (reference (length (s .cells))) made)
       (counted-stop fuel CellsFull (s .steps) (λ e. let z : _≡_ {A = ℕ} 0 1 = cc in absurd (omega arith)))
 
+  -- an operation
   counted-operate : (i : ℕ) (v w : Value (M .Value)) (s : State (M .Value)) → Counted fuel (s .steps) (operate M S i v w s)
   counted-operate i (number m) (number n) s = counted-done fuel _ s
   counted-operate i (number m) (closure f ρ) s = counted-stuck fuel i (s .steps)
@@ -117,6 +123,7 @@ module _ (M : NumberKind) (S : Sheet) (fuel : ℕ) where
   counted-operate i (reference a) w s = counted-stuck fuel i (s .steps)
 
   module _ (ev : Evaluator (M .Value)) (ih : Counts fuel ev) where
+    -- a choice: the branch counts too
     counted-choose : (i : ℕ) (ρ : Environment (M .Value)) (v : Value (M .Value)) (s : State (M .Value)) → Counted fuel (s .steps) (choose M S ev i ρ v s)
     counted-choose i ρ (number n) s = ih _ ρ s
     counted-choose i ρ (closure f ρ′) s = counted-stuck fuel i (s .steps)

@@ -7,7 +7,7 @@ use lib.ListN.{length}
 use Rattle.number.specs.NumberKind.{NumberKind}
 use Rattle.sheet.specs.Sheet.{Sheet}
 use Rattle.evaluation.specs.declared.ending.Ending.the-variants.{Number}
-use Rattle.evaluation.specs.Values.{Value, number, Environment, empty, State, Outcome, done}
+use Rattle.evaluation.specs.Values.{Value, number, Environment, empty, State, done}
 use Rattle.evaluation.specs.Evaluation.{eval, most-pending, most-bindings, most-fresh}
 use Rattle.evaluation.specs.Runs.{run, run-report, opening}
 use Rattle.evaluation.specs.BigStep.{Derives, literal, variable, lambda, application, new, channel, read, write, choice-zero, choice-nonzero, operation, Store}
@@ -63,10 +63,14 @@ pub record Within {V : Type 0} (S : Sheet) (fuel : ℕ) (s : State V) : Type 0 w
 
 -- the relation takes node i from the state s to the value v and the state s′ within the limits
 pub record Derived (M : NumberKind) (S : Sheet) (fuel d i : ℕ) (ρ : Environment (M .Value)) (s : State (M .Value)) (v : Value (M .Value)) (s′ : State (M .Value)) : Type 0 where
+  -- value and store
   pub derivation : Derives M S ρ (s .cells) i v (s′ .cells)
+  -- a step for each rule, and a binding for each application
   pub steps : s′ .steps ≡ s .steps + size derivation
   pub bindings : s′ .bindings ≡ s .bindings + applied derivation
+  -- a place for each pending node
   pub places : depth derivation ≤ d
+  -- fuel, bindings and cells have sufficed
   pub limits : Within S fuel s′
 
 -- from a state within the limits, evaluation is done exactly where the relation derives the same within the limits
@@ -87,6 +91,6 @@ abbrev pub Numbers-exactly : NumberKind → Type 0
 Numbers-exactly M =
     (S : Sheet) (fuel e : ℕ) (ns : List (M .Value)) (n : M .Value) (t : ℕ) → length ns ≤ S .sites + most-fresh
     → (run-report M S fuel e ns ≡ record { ending = Number; number = n; steps = t }
-      → (s : State (M .Value)) × (s .steps ≡ t) × Derived M S fuel most-pending (S .entry e .root) empty (opening ns) (number n) s)
+    → (s : State (M .Value)) × (s .steps ≡ t) × Derived M S fuel most-pending (S .entry e .root) empty (opening ns) (number n) s)
     × ((s : State (M .Value)) → s .steps ≡ t → Derived M S fuel most-pending (S .entry e .root) empty (opening ns) (number n) s
-      → run-report M S fuel e ns ≡ record { ending = Number; number = n; steps = t })
+    → run-report M S fuel e ns ≡ record { ending = Number; number = n; steps = t })

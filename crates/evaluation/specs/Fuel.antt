@@ -39,6 +39,7 @@ pub record Run-counted (M : NumberKind) (S : Sheet) (fuel e : ℕ) (ns : List (M
   pub least : 0 < fuel → 0 < run-report M S fuel e ns .steps
   pub spent : run-report M S fuel e ns .ending ≡ Stopped FuelSpent → run-report M S fuel e ns .steps ≡ fuel
 
+-- the steps of every run are counted so
 abbrev pub Runs-counted : NumberKind → Type 0
 Runs-counted M = (S : Sheet) (fuel e : ℕ) (ns : List (M .Value)) → Run-counted M S fuel e ns
 
