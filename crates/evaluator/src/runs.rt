@@ -107,10 +107,8 @@ pub fn conclude<K: Number>(outcome: Outcome<K>) -> Report<K>
     }
 }
 
-// Runs an entry of a shaped sheet whose sites hold the numbers given: what the run tells, and what the
-// sites hold after it, is what the definition says. Both depend on the sheet, the entry, the fuel and
-// the numbers alone, so on nothing that the work areas held before.
-pub fn evaluate<K: Number>(
+// Loads the cells, runs, and takes the numbers back.
+fn run_entry<K: Number>(
     table: &Table,
     numbers: &mut [K],
     pending: &mut [Frame<K>],
@@ -135,4 +133,27 @@ pub fn evaluate<K: Number>(
     let outcome = run(table, &mut frames, &mut bindings, &mut cells, root, fuel);
     keep(outcome, &cells, numbers);
     conclude(outcome)
+}
+
+// Runs an entry of a shaped sheet whose sites hold the numbers given: what the run tells, and what the
+// sites hold after it, is what the definition says. Both depend on the sheet, the entry, the fuel and
+// the numbers alone, so on nothing that the work areas held before.
+pub fn evaluate<K: Number>(
+    table: &Table,
+    numbers: &mut [K],
+    pending: &mut [Frame<K>],
+    bound: &mut [Binding<K>],
+    held: &mut [Cell<K>],
+    entry: usize,
+    fuel: usize,
+) -> Report<K>
+    requires { ⌜ passed (shape-verdict (now (now table .rows))) ≡ true ⌝
+        ∗ ⌜ length (now numbers) ≡ view (now (now table .rows)) .sites ⌝
+        ∗ ⌜ most-pending ≤ length (now pending) ⌝
+        ∗ ⌜ most-bindings ≤ length (now bound) ⌝
+        ∗ ⌜ view (now (now table .rows)) .sites + most-fresh ≤ length (now held) ⌝ }
+    ensures answer { λ r. ⌜ reported (K·Number .value) r ≡ run-report (K·Number .kind) (view (now (now (table .entry) .rows))) fuel entry (map (K·Number .value) (now (numbers .entry))) ⌝ }
+    ensures left { λ _. ⌜ map (K·Number .value) (now (numbers .exit)) ≡ numbers-after (outcome (K·Number .kind) (view (now (now (table .entry) .rows))) fuel entry (map (K·Number .value) (now (numbers .entry)))) (map (K·Number .value) (now (numbers .entry))) ⌝ }
+{
+    run_entry(table, numbers, pending, bound, held, entry, fuel)
 }

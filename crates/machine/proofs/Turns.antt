@@ -7,7 +7,9 @@ use native.Mathlib.Omega.{arith}
 use native.Mathlib.Numerals.{add-one}
 use lib.Dec.{eqb, ltb, leb}
 use lib.ListN.{length}
-use Rattle.std.proofs.shelf.Tests.{eq-eqb, ne-eqb}
+use mathlib.Core.Logic.{⊎-elim}
+use Rattle.std.specs.declared.option.Option.the-variants.{None, Some}
+use Rattle.std.proofs.shelf.Tests.{eq-eqb, ne-eqb, cases-bool, eqb-true, eqb-false, leb-true, leb-false}
 use Rattle.number.specs.NumberKind.{NumberKind}
 use Rattle.machine.specs.declared.values.Value.{Value}
 use Rattle.machine.specs.declared.values.Binding.{Binding}
@@ -20,10 +22,29 @@ use Rattle.evaluation.specs.declared.ending.Stop.the-variants.{FuelSpent, Pendi
 use Rattle.sheet.specs.Sheet.{Sheet}
 use Rattle.machine.specs.Flat.{Limits, FlatOutcome, flat-done, flat-stopped, flat-eval}
 use Rattle.machine.specs.Seen.{Machine, value, stage, frame, next, frames, bindings, cells, machine, flat}
-use Rattle.machine.specs.Steps.{at, starts, resumes}
+use Rattle.machine.specs.Steps.{at, start-refused, starts, resumes}
 use Rattle.machine.proofs.Lists.{map-top, map-length}
 use Rattle.machine.proofs.Finish.{finish, started, returned, out-of-fuel, out-of-places, stopping, returning, beginning}
 use Rattle.machine.proofs.Weigh.{weigh, lighter-started, lighter-returned}
+
+-- equal answers
+some-is : (a b : Stop) → Some a ≡ Some b → a ≡ b
+some-is a b e = cc
+
+some-none : {A : Type 0} (a : Stop) → Some a ≡ None → A
+some-none a e = let z : _≡_ {A = ℕ} 0 1 = cc in absurd (omega arith)
+
+-- a start that is not refused
+pub not-refused : (t fuel d l : ℕ) (full : Bool) → full ≡ leb d l → None ≡ start-refused (eqb t fuel) full → (t ≡ fuel → ⊥) × (l < d)
+not-refused t fuel d l full h r =
+    ⊎-elim
+    (λ (u : eqb t fuel ≡ true). some-none FuelSpent (sym (r ∙ ap (λ (b : Bool). start-refused b full) u)))
+    (λ (u : eqb t fuel ≡ false).
+    ⊎-elim
+    (λ (w : full ≡ true). some-none PendingFull (sym (r ∙ ap (λ (b : Bool). start-refused b full) u ∙ ap (start-refused false) w)))
+    (λ (w : full ≡ false). let g = leb-false d l (sym h ∙ w) in (eqb-false t fuel u, omega arith))
+    (cases-bool full))
+    (cases-bool (eqb t fuel))
 
 module _ {K : Type 0} (M : NumberKind) (S : Sheet) (L : Limits) (n : K → M .Value) (fuel d : ℕ) where
   abbrev V : Type 0
@@ -46,6 +67,21 @@ module _ {K : Type 0} (M : NumberKind) (S : Sheet) (L : Limits) (n : K → M .Va
         let q : length (frames n fs) ≡ length fs = map-length (frame n) fs in
         out-of-places M S L fuel d i k (frames n fs) (bindings n bs) (cells n cs) t (omega arith) (ne-eqb _ _ h)
         ∙ ap (λ (y : Next K). finish M S L fuel d (machine n y fs bs cs) t) (sym e) ∙ inv
+
+    pub ends-refused : (stop : Stop) (full : Bool) (i k : ℕ) → x ≡ Start i k → full ≡ leb d (length fs) → Some stop ≡ start-refused (eqb t fuel) full → flat-stopped stop t ≡ o
+    ends-refused stop full i k e h r =
+        ⊎-elim
+        (λ (u : eqb t fuel ≡ true).
+        let q : stop ≡ FuelSpent = some-is stop FuelSpent (r ∙ ap (λ (b : Bool). start-refused b full) u) in
+        ap (λ (z : Stop). flat-stopped z t) q ∙ ends-fuel i k e (eqb-true t fuel u))
+        (λ (u : eqb t fuel ≡ false).
+        ⊎-elim
+        (λ (w : full ≡ true).
+        let q : stop ≡ PendingFull = some-is stop PendingFull (r ∙ ap (λ (b : Bool). start-refused b full) u ∙ ap (start-refused false) w) in
+        ap (λ (z : Stop). flat-stopped z t) q ∙ ends-full i k e (eqb-false t fuel u) (leb-true d (length fs) (sym h ∙ w)))
+        (λ (w : full ≡ false). some-none stop (r ∙ ap (λ (b : Bool). start-refused b full) u ∙ ap (start-refused false) w))
+        (cases-bool full))
+        (cases-bool (eqb t fuel))
 
     pub ends-stop : (e : Stop) → x ≡ Halt e → flat-stopped e t ≡ o
     ends-stop e q =

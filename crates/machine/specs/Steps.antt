@@ -21,11 +21,17 @@ use Rattle.machine.specs.declared.values.Stage.the-variants.{Chooses, Creates,
 use Rattle.machine.specs.declared.values.Next.{Next}
 use Rattle.machine.specs.declared.values.Next.the-variants.{Start, Return, Halt}
 use Rattle.evaluation.specs.declared.ending.Stop.{Stop}
-use Rattle.evaluation.specs.declared.ending.Stop.the-variants.{BindingsFull, CellsFull, Stuck}
+use Rattle.evaluation.specs.declared.ending.Stop.the-variants.{FuelSpent, PendingFull, BindingsFull, CellsFull, Stuck}
 use Rattle.sheet.specs.Sheet.{Sheet, last-part, part}
 use Rattle.evaluation.specs.Evaluation.{operation}
 use Rattle.machine.specs.Flat.{Limits, seek}
 use Rattle.machine.specs.Seen.{Machine}
+
+-- why a node cannot be started, where all fuel is spent and where no place is left
+abbrev pub start-refused : (spent full : Bool) → Option Stop
+start-refused true full = Some FuelSpent
+start-refused false true = Some PendingFull
+start-refused false false = None
 
 module _ {V : Type 0} where
   -- the machine with these parts

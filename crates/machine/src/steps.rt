@@ -183,7 +183,7 @@ fn write<K: Number>(
             Some(cell) => {
                 let site = cell.site;
                 let _ = cells.set(address, Cell { site, value });
-                Next::Return(value)
+                Next::Return(value) // the value written
             }
             None => Next::Halt(Stop::Stuck { node }),
         },

@@ -6,7 +6,7 @@ use Rattle.machine.specs.Flat.{flat-eval}
 use Rattle.machine.specs.Seen.{machine, flat}
 use Rattle.machine.proofs.Finish.{finish}
 use Rattle.machine.proofs.Weigh.{weigh}
-use Rattle.machine.proofs.runs.run.Given as given
+use Rattle.machine.proofs.runs.cycle.Given as given
 
 -- the rest of the run ends as the flat evaluation does
 abbrev pub Inv-loop-next : given.InvT-loop-next

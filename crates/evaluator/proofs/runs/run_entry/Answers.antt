@@ -10,7 +10,7 @@ use Rattle.sheet.specs.Sheet.{view}
 use Rattle.evaluation.specs.Evaluation.{most-pending, most-bindings, most-fresh}
 use Rattle.evaluator.proofs.Opened.{begun, tells-as-defined, keeps-as-defined}
 use Rattle.evaluator.proofs.Shaped.{literals-fit}
-use Rattle.evaluator.proofs.runs.evaluate.Needs as need
+use Rattle.evaluator.proofs.runs.run_entry.Needs as need
 
 pub returns : need.returns
 returns g c =
