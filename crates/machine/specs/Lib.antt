@@ -1,0 +1,4 @@
+pub mod Flat
+pub mod Seen
+pub mod Steps
+pub mod Does
