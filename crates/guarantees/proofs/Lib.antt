@@ -1,0 +1,4 @@
+pub mod Outcomes
+pub mod Addresses
+pub mod Fitting
+pub mod Spans

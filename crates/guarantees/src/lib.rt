@@ -1,0 +1,1 @@
+//! What the rules promise of the runs of a well-typed sheet: theorems, each on a function's contract.
