@@ -12,7 +12,7 @@ use Rattle.std.proofs.shelf.Ways.{tells}
 use Rattle.sheet.specs.Sheet.{Sheet, parts-of, part, part-before, In-span}
 use Rattle.shaping.specs.Nodes.{parts-begin, sized, lawful-node}
 use Rattle.shaping.specs.Meaning.{Each, Nesting}
-use Rattle.shaping.proofs.Spans.{nesting}
+use Rattle.shaping.proofs.Spans.{within, nesting}
 use Rattle.guarantees.specs.Sheets.{Inside}
 use Rattle.guarantees.proofs.Addresses.{none-some}
 
@@ -56,34 +56,36 @@ module _ (S : Sheet) where
               adjacent (suc n) (e - S .node (e - 1) .size) q (m .2) (omega arith) in
       subst (λ (x : ℕ). part-before S x + S .node x .size ≡ x) (sym (part-shift e q)) r
 
-  -- parts that come before stand before
-  part-falls : (i q d : ℕ) → part S i (d + q) ≤ part S i q
-  part-falls i q zero = omega arith
-  part-falls i q (suc d) = let r : part S i (d + q) ≤ part S i q = part-falls i q d in omega arith
+  -- a part that is counted later stands no later
+  part-falls : (i q r : ℕ) → q ≤ r → part S i r ≤ part S i q
+  part-falls i q zero l = let e : 0 ≡ q = omega arith in subst (λ (x : ℕ). part S i 0 ≤ part S i x) e (omega arith)
+  part-falls i q (suc r) l =
+      elim (cases-lt r q)
+      [ inl x ↦ let e : suc r ≡ q = omega arith in subst (λ (x : ℕ). part S i (suc r) ≤ part S i x) e (omega arith)
+      | inr x ↦ let f : part S i r ≤ part S i q = part-falls i q r x in omega arith
+      ]
 
 module _ (S : Sheet) (ok : Each (S .nodes) (lawful-node S)) where
-  -- a part that comes before another ends before that one begins
-  part-apart : (i q d : ℕ) → i < S .nodes → suc d + q < parts-of (S .node i .kind) → part S i (suc d + q) + S .node (part S i q) .size ≤ part S i q
-  part-apart i q d l k =
+  -- and ends before the other begins
+  part-apart : (i q r : ℕ) → i < S .nodes → q < r → r < parts-of (S .node i .kind) → part S i r + S .node (part S i q) .size ≤ part S i q
+  part-apart i q r l k m =
       let h : lawful-node S i ≡ true = ok i l in
       let z : sized i (S .node i .size) (parts-begin S (parts-of (S .node i .kind)) i) ≡ true = grind arith in
       let a : part S i (suc q) + S .node (part S i q) .size ≡ part S i q = adjacent S _ i q (sized-begin i _ _ z) (omega arith) in
-      let e : d + suc q ≡ suc d + q = omega arith in
-      let f : part S i (suc d + q) ≤ part S i (suc q) = subst (λ (x : ℕ). part S i x ≤ part S i (suc q)) e (part-falls S i (suc q) d) in
+      let f : part S i r ≤ part S i (suc q) = part-falls S i (suc q) r k in
       omega arith
 
-  -- a node before node i that has one of i's parts inside it is in none of i's parts
-  no-part : (i q r g : ℕ) → i < S .nodes → q < parts-of (S .node i .kind) → Inside S (part S i q) g → In-span S (part S i r) g → ⊥
-  no-part i q r g l k h t =
+  -- a node that has one of i's parts inside it is in no part of i
+  no-part : (i q r g : ℕ) → i < S .nodes → q < parts-of (S .node i .kind) → r < parts-of (S .node i .kind) → Inside S (part S i q) g →
+      In-span S (part S i r) g → ⊥
+  no-part i q r g l k m h t =
       elim (cases-lt r q)
       [ inl x ↦
-          let e : suc (q - suc r) + r ≡ q = omega arith in
-          let a : part S i q + S .node (part S i r) .size ≤ part S i r =
-                  subst (λ (y : ℕ). part S i y + S .node (part S i r) .size ≤ part S i r) e (part-apart i r (q - suc r) l (omega arith)) in
-          omega arith
+          let a : part S i q + S .node (part S i r) .size ≤ part S i r = part-apart i r q l x k in
+          let w : In-span S (part S i r) (part S i q) = within S ok g (part S i r) (omega (arith, nesting S ok .parts i r l m .0)) t (part S i q) (h .0) in
+          omega (arith, a, w .1)
       | inr x ↦
-          let e : r - q + q ≡ r = omega arith in
-          let a : part S i r ≤ part S i q = subst (λ (y : ℕ). part S i y ≤ part S i q) e (part-falls S i q (r - q)) in
+          let a : part S i r ≤ part S i q = part-falls S i q r x in
           omega (arith, h .1, t .0, a)
       ]
 
@@ -97,7 +99,7 @@ module _ (S : Sheet) (ok : Each (S .nodes) (lawful-node S)) where
           let w : In-span S i (part S i q) = N .parts i q l k .1 (part S i q) (N .own (part S i q) (omega arith) .0) in
           elim (N .tiled i g l (omega arith, omega (arith, h .1, w .1)))
           [ inl e ↦ absurd (n e)
-          | inr t ↦ absurd (no-part i q (t .0) g l k h (t .2))
+          | inr t ↦ absurd (no-part i q (t .0) g l k (t .1) h (t .2))
           ]
       | inr x ↦ ((omega arith, omega (arith, h .0 .1, p)), omega arith)
       ]
