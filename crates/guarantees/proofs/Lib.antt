@@ -4,3 +4,7 @@ pub mod Fitting
 pub mod Spans
 pub mod Typed
 pub mod Values
+pub mod Stores
+pub mod Nodes
+pub mod Gives
+pub mod Sound
