@@ -8,3 +8,4 @@ pub mod Stores
 pub mod Nodes
 pub mod Gives
 pub mod Sound
+pub mod Soundness

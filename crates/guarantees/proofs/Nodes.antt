@@ -1,7 +1,7 @@
 -- A node with its kind and its rules, and what is ready for it and for its parts.
 use mathlib.Core.Path.{_≡_, refl, sym, subst, _∙_}
 use mathlib.Core.List.{List}
-use mathlib.Core.Bool.{true, _&&_}
+use mathlib.Core.Bool.{true, false, _&&_}
 use mathlib.Core.Logic.{_≢_}
 use Prim.Native.Nat.{ℕ, _<_, _+_}
 use native.Mathlib.Omega.{arith}
@@ -55,7 +55,11 @@ number-means form.Unknown h = absurd (true≢false (sym h))
 
 -- a kind other than a function's
 abbrev pub Other : Kind → Type 0
-Other k = k ≢ Lambda
+Other k = is-lambda k ≡ false
+
+-- which is no function's
+not-lambda : (k : Kind) → Other k → k ≢ Lambda
+not-lambda k h e = true≢false (subst (λ (x : Kind). is-lambda x ≡ false) e h)
 
 module _ (S : Sheet) where
   -- node i is of kind k, and keeps the rules of that kind
@@ -121,7 +125,7 @@ module _ (S : Sheet) (ok : Typed-sheet S) where
       let f : part S i q < i = nesting S (ok .nodes) .parts i q (n .below) p .0 in
       record {
         below = omega (arith, n .below);
-        covers = covers-part S ρ i (part S i q) (λ e. o (sym (n .kind) ∙ e)) (λ g. part-out S (ok .nodes) i q g (n .below) p) (r .covers);
+        covers = covers-part S ρ i (part S i q) (λ e. not-lambda k o (sym (n .kind) ∙ e)) (λ g. part-out S (ok .nodes) i q g (n .below) p) (r .covers);
         all = r .all;
         cells = r .cells;
       }
