@@ -15,19 +15,28 @@ module _ (S : Sheet) where
   fits-trans : (n X Y Z : ℕ) → Fits S n X Y → Fits S n Y Z → Fits S n X Z
   unfolding Fits
   fits-trans zero X Y Z h k = h
-  fits-trans (suc n) X Y Z h k =
-      (h .0 ∙ k .0, within-trans (S .type X .set) (S .type Y .set) (S .type Z .set) (h .1) (k .1), (λ e s t. k .2 e s (h .2 (k .0 ∙ e) s t)), (λ e.
-      (fits-trans n (S .type Z .argument) (S .type Y .argument) (S .type X .argument) (k .3 e .0) (h .3 (k .0 ∙ e) .0),
+  fits-trans (suc n) X Y Z h k = (
+    h .0 ∙ k .0,
+    within-trans (S .type X .set) (S .type Y .set) (S .type Z .set) (h .1) (k .1),
+    (λ e s t. k .2 e s (h .2 (k .0 ∙ e) s t)),
+    (λ e. (
+      fits-trans n (S .type Z .argument) (S .type Y .argument) (S .type X .argument) (k .3 e .0) (h .3 (k .0 ∙ e) .0),
       fits-trans n (S .type X .result) (S .type Y .result) (S .type Z .result) (h .3 (k .0 ∙ e) .1) (k .3 e .1),
-      within-trans (S .type Z .effect) (S .type Y .effect) (S .type X .effect) (k .3 e .2) (h .3 (k .0 ∙ e) .2))))
+      within-trans (S .type Z .effect) (S .type Y .effect) (S .type X .effect) (k .3 e .2) (h .3 (k .0 ∙ e) .2),
+    )),
+  )
 
   -- looked at one deeper
   fits-more : (n X Y : ℕ) → Fits S n X Y → Fits S (suc n) X Y
   unfolding Fits
   fits-more zero X Y h = absurd h
-  fits-more (suc n) X Y h =
-      (h .0, h .1, h .2, λ e.
-      (fits-more n (S .type Y .argument) (S .type X .argument) (h .3 e .0), fits-more n (S .type X .result) (S .type Y .result) (h .3 e .1), h .3 e .2))
+  fits-more (suc n) X Y h = (
+    h .0,
+    h .1,
+    h .2,
+    λ e.
+        (fits-more n (S .type Y .argument) (S .type X .argument) (h .3 e .0), fits-more n (S .type X .result) (S .type Y .result) (h .3 e .1), h .3 e .2),
+  )
 
   pub fit-trans : (X Y Z : ℕ) → Fit S X Y → Fit S Y Z → Fit S X Z
   unfolding Fit

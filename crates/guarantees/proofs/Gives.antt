@@ -94,6 +94,6 @@ module _ {V : Type 0} (S : Sheet) (ok : Typed-sheet S) (ev : Evaluator V) (ih : 
       (gives-ready S (control-at S i) (part S i 1) (part S i 0) ρ (s .cells) f s₁ g (ready-part S ok k i 0 ρ (s .cells) nd o (omega arith) r)))
       (λ v s₂ h.
       let h′ : Gives S (control-at S i) (part S i 0) (s₁ .cells) v s₂ =
-              gives-within S (control-at S i) (control-at S (part S i 0)) (part S i 0) (s₁ .cells) v s₂ w h in
+      gives-within S (control-at S i) (control-at S (part S i 0)) (part S i 0) (s₁ .cells) v s₂ w h in
       c f v s₂ (gives-later S (control-at S i) (part S i 1) (part S i 0) (s .cells) f v s₁ s₂ g h′)
       (record { typed = h′ .typed; cells = h′ .cells; extends = extends-trans S (control-at S i) (s .cells) (s₁ .cells) (s₂ .cells) (g .extends) (h′ .extends) })))

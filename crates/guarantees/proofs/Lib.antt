@@ -9,3 +9,6 @@ pub mod Nodes
 pub mod Gives
 pub mod Sound
 pub mod Soundness
+pub mod Visible
+pub mod Agreement
+pub mod Same

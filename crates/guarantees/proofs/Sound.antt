@@ -42,7 +42,7 @@ module _ {V : Type 0} (S : Sheet) (ok : Typed-sheet S) where
       let h : Has-type S (s .cells) (closure f ρ) t = hf .typed in
       let b : Node S Lambda f = node-of S ok Lambda f (h .0) (h .1) in
       let a : Fit S (type-at S (part S i 0)) (argument-at S f) =
-              upto-argument S (type-at S f) t (type-at S (part S i 0)) (h .2) (nd .typing .0) (nd .typing .1) in
+      upto-argument S (type-at S f) t (type-at S (part S i 0)) (h .2) (nd .typing .0) (nd .typing .1) in
       record {
         ready = ready-body S ok f ρ v (s .cells) b (h .3) (h .4)
             (typed-fit S (s .cells) v (type-at S (part S i 0)) (argument-at S f) a (hv .typed)) (hv .cells);
@@ -76,8 +76,8 @@ module _ {V : Type 0} (S : Sheet) (ok : Typed-sheet S) (ev : Evaluator V) (ih : 
   sound-loaded i a cs s nd g (Some c) e =
       let h : Has-type S (s .cells) (reference a) (type-at S (part S i 0)) = g .typed in
       let f : Fit S (S .site (c .site) .content) (type-at S i) =
-              subst (λ (x : ℕ). Fit S (S .site x .content) (type-at S i)) (sited S (type-at S (part S i 0)) a c (s .cells) h e)
-              (nd .typing .1 (h .2 .0) (h .2 .2) .0) in
+      subst (λ (x : ℕ). Fit S (S .site x .content) (type-at S i)) (sited S (type-at S (part S i 0)) a c (s .cells) h e)
+      (nd .typing .1 (h .2 .0) (h .2 .2) .0) in
       record {
         typed = typed-fit S (s .cells) (c .value) (S .site (c .site) .content) (type-at S i) f (g .cells .typed a c e (h .1));
         cells = g .cells;
@@ -100,9 +100,9 @@ module _ {V : Type 0} (S : Sheet) (ok : Typed-sheet S) (ev : Evaluator V) (ih : 
       let d : Cell V = record { site = c .site; value = v } in
       let q : h .2 .0 ≡ c .site = sited S (type-at S (part S i 1)) a c (s .cells) h e in
       let f : Fit S (type-at S (part S i 0)) (S .site (c .site) .content) =
-              subst (λ (x : ℕ). Fit S (type-at S (part S i 0)) (S .site x .content)) q (nd .typing .1 (h .2 .0) (h .2 .2) .0 .0) in
+      subst (λ (x : ℕ). Fit S (type-at S (part S i 0)) (S .site x .content)) q (nd .typing .1 (h .2 .0) (h .2 .2) .0 .0) in
       let u : Within (control-at S i) (content-set S (c .site)) =
-              subst (λ (x : ℕ). Within (control-at S i) (content-set S x)) q (nd .typing .1 (h .2 .0) (h .2 .2) .1) in
+      subst (λ (x : ℕ). Within (control-at S i) (content-set S x)) q (nd .typing .1 (h .2 .0) (h .2 .2) .1) in
       record {
         typed = typed-keeps S (s .cells) (set (s .cells) a d) (keeps-write S (s .cells) a c d e refl) v (type-at S i)
             (typed-fit S (s .cells) v (type-at S (part S i 0)) (type-at S i) (nd .typing .2) (k .typed));
@@ -127,12 +127,12 @@ module _ {V : Type 0} (S : Sheet) (ok : Typed-sheet S) (ev : Evaluator V) (ih : 
       let n = variable-of S ok i nd in
       let b : (v : Value V) × (lookup f ρ ≡ Some v) = r .covers f (n .0) (n .1) (n .2) in
       let g : Gives-own S i (s .cells) (b .0) s =
-              record {
-                typed = typed-fit S (s .cells) (b .0) (argument-at S f) (type-at S i) (nd .typing .1)
-                    (lookup-typed S (s .cells) ρ f (b .0) (r .all) (b .1));
-                cells = r .cells;
-                extends = extends-refl S (control-at S i) (s .cells);
-              } in
+      record {
+        typed = typed-fit S (s .cells) (b .0) (argument-at S f) (type-at S i) (nd .typing .1)
+            (lookup-typed S (s .cells) ρ f (b .0) (r .all) (b .1));
+        cells = r .cells;
+        extends = extends-refl S (control-at S i) (s .cells);
+      } in
       subst (λ (o : Option (Value V)). Post (Gives-own S i (s .cells)) (found i s o)) (sym (b .1)) g
 
   -- a function

@@ -115,4 +115,4 @@ module _ (M : NumberKind) (S : Sheet) (ok : Typed-sheet S) (fuel : ℕ) where
       post-provided (Gives-own S i (s .cells)) (eqb (s .steps) fuel) (λ _. stopped FuelSpent (s .steps))
       (by-kind M S (eval M S fuel d) (S .node i .kind) i ρ (one-step s)) tt
       (sound-by-kind M S ok (eval M S fuel d) (sound d) (S .node i .kind) i ρ (one-step s) (node-of S ok (S .node i .kind) i (r .below) refl)
-      (record { below = r .below; covers = r .covers; all = r .all; cells = r .cells }))
+      r)

@@ -30,11 +30,11 @@ module _ (S : Sheet) where
   begin-more : (n e : ℕ) → Begin (suc n) e → (1 ≤ S .node (e - 1) .size) × (S .node (e - 1) .size ≤ e) × Begin n (e - S .node (e - 1) .size)
   unfolding parts-begin
   begin-more n e (b, h) =
-      elim (cases-bool (ltb 0 (S .node (e - 1) .size) && leb (S .node (e - 1) .size) e))
-      [ inl t ↦
-          let p = and-parts _ _ t in
-          (ltb-true _ _ (p .0), leb-true _ _ (p .1), (b, sym (cond-true _ (parts-begin S n (e - S .node (e - 1) .size)) None t) ∙ h))
-      | inr f ↦ none-some (sym (cond-false _ (parts-begin S n (e - S .node (e - 1) .size)) None f) ∙ h)
+      elim (cases-bool (ltb 0 (S .node (e - 1) .size) && leb (S .node (e - 1) .size) e)) [
+        | inl t ↦
+            let p = and-parts _ _ t in
+            (ltb-true _ _ (p .0), leb-true _ _ (p .1), (b, sym (cond-true _ (parts-begin S n (e - S .node (e - 1) .size)) None t) ∙ h))
+        | inr f ↦ none-some (sym (cond-false _ (parts-begin S n (e - S .node (e - 1) .size)) None f) ∙ h)
       ]
 
   -- the parts before the last one are the parts of what ends before it
@@ -53,16 +53,16 @@ module _ (S : Sheet) where
   adjacent (suc (suc n)) e (suc q) h l =
       let m = begin-more (suc n) e h in
       let r : part S (e - S .node (e - 1) .size) (suc q) + S .node (part S (e - S .node (e - 1) .size) q) .size ≡ part S (e - S .node (e - 1) .size) q =
-              adjacent (suc n) (e - S .node (e - 1) .size) q (m .2) (omega arith) in
+      adjacent (suc n) (e - S .node (e - 1) .size) q (m .2) (omega arith) in
       subst (λ (x : ℕ). part-before S x + S .node x .size ≡ x) (sym (part-shift e q)) r
 
   -- a part that is counted later stands no later
   part-falls : (i q r : ℕ) → q ≤ r → part S i r ≤ part S i q
   part-falls i q zero l = let e : 0 ≡ q = omega arith in subst (λ (x : ℕ). part S i 0 ≤ part S i x) e (omega arith)
   part-falls i q (suc r) l =
-      elim (cases-lt r q)
-      [ inl x ↦ let e : suc r ≡ q = omega arith in subst (λ (x : ℕ). part S i (suc r) ≤ part S i x) e (omega arith)
-      | inr x ↦ let f : part S i r ≤ part S i q = part-falls i q r x in omega arith
+      elim (cases-lt r q) [
+        | inl x ↦ let e : suc r ≡ q = omega arith in subst (λ (x : ℕ). part S i (suc r) ≤ part S i x) e (omega arith)
+        | inr x ↦ let f : part S i r ≤ part S i q = part-falls i q r x in omega arith
       ]
 
 module _ (S : Sheet) (ok : Each (S .nodes) (lawful-node S)) where
@@ -79,14 +79,14 @@ module _ (S : Sheet) (ok : Each (S .nodes) (lawful-node S)) where
   no-part : (i q r g : ℕ) → i < S .nodes → q < parts-of (S .node i .kind) → r < parts-of (S .node i .kind) → Inside S (part S i q) g →
       In-span S (part S i r) g → ⊥
   no-part i q r g l k m h t =
-      elim (cases-lt r q)
-      [ inl x ↦
-          let a : part S i q + S .node (part S i r) .size ≤ part S i r = part-apart i r q l x k in
-          let w : In-span S (part S i r) (part S i q) = within S ok g (part S i r) (omega (arith, nesting S ok .parts i r l m .0)) t (part S i q) (h .0) in
-          omega (arith, a, w .1)
-      | inr x ↦
-          let a : part S i r ≤ part S i q = part-falls S i q r x in
-          omega (arith, h .1, t .0, a)
+      elim (cases-lt r q) [
+        | inl x ↦
+            let a : part S i q + S .node (part S i r) .size ≤ part S i r = part-apart i r q l x k in
+            let w : In-span S (part S i r) (part S i q) = within S ok g (part S i r) (omega (arith, nesting S ok .parts i r l m .0)) t (part S i q) (h .0) in
+            omega (arith, a, w .1)
+        | inr x ↦
+            let a : part S i r ≤ part S i q = part-falls S i q r x in
+            omega (arith, h .1, t .0, a)
       ]
 
   -- where a part of i stands inside g, and g is not i, i stands inside g
@@ -94,12 +94,12 @@ module _ (S : Sheet) (ok : Each (S .nodes) (lawful-node S)) where
   part-out i q g l k n h =
       let N : Nesting S = nesting S ok in
       let p : part S i q < i = N .parts i q l k .0 in
-      elim (cases-lt g i)
-      [ inl x ↦
-          let w : In-span S i (part S i q) = N .parts i q l k .1 (part S i q) (N .own (part S i q) (omega arith) .0) in
-          elim (N .tiled i g l (omega arith, omega (arith, h .1, w .1)))
-          [ inl e ↦ absurd (n e)
-          | inr t ↦ absurd (no-part i q (t .0) g l k (t .1) h (t .2))
-          ]
-      | inr x ↦ ((omega arith, omega (arith, h .0 .1, p)), omega arith)
+      elim (cases-lt g i) [
+        | inl x ↦
+            let w : In-span S i (part S i q) = N .parts i q l k .1 (part S i q) (N .own (part S i q) (omega arith) .0) in
+            elim (N .tiled i g l (omega arith, omega (arith, h .1, w .1))) [
+              | inl e ↦ absurd (n e)
+              | inr t ↦ absurd (no-part i q (t .0) g l k (t .1) h (t .2))
+            ]
+        | inr x ↦ ((omega arith, omega (arith, h .0 .1, p)), omega arith)
       ]

@@ -87,16 +87,16 @@ module _ {V : Type 0} (S : Sheet) where
       Within m (content-set S (c .site)) → Extends m cs (set cs b d)
   unfolding Extends
   extends-write m cs b c d q r u a x e =
-      elim (cases-eq b a)
-      [ inl p ↦
-          let w : c ≡ x = some-inj (sym q ∙ subst (λ (z : ℕ). nth cs z ≡ Some x) (sym p) e) in
-          record {
-            now = d;
-            at = subst (λ (z : ℕ). nth (set cs b d) z ≡ Some d) p (nth-set-same cs b c d q);
-            sited = r ∙ ap (λ (z : Cell V). z .site) w;
-            unchanged = inr (subst (λ (z : Cell V). Within m (content-set S (z .site))) w u);
-          }
-      | inr n ↦ record { now = x; at = nth-set-other cs b a d n ∙ e; sited = refl; unchanged = inl refl }
+      elim (cases-eq b a) [
+        | inl p ↦
+            let w : c ≡ x = some-inj (sym q ∙ subst (λ (z : ℕ). nth cs z ≡ Some x) (sym p) e) in
+            record {
+              now = d;
+              at = subst (λ (z : ℕ). nth (set cs b d) z ≡ Some d) p (nth-set-same cs b c d q);
+              sited = r ∙ ap (λ (z : Cell V). z .site) w;
+              unchanged = inr (subst (λ (z : Cell V). Within m (content-set S (z .site))) w u);
+            }
+        | inr n ↦ record { now = x; at = nth-set-other cs b a d n ∙ e; sited = refl; unchanged = inl refl }
       ]
 
   pub keeps-append : (cs : List (Cell V)) (d : Cell V) → Keeps-sites cs (cs ++ d ∷ [])
@@ -117,9 +117,9 @@ module _ {V : Type 0} (S : Sheet) where
       record {
         places = λ a b. keeps-append cs d a a (ok .places a b);
         typed = λ a c e live.
-            elim (nth-either cs a c d e)
-            [ inl q ↦ keep (c .value) (S .site (c .site) .content) (ok .typed a c q live)
-            | inr p ↦ subst (Cell-typed (cs ++ d ∷ [])) (p .1) (keep (d .value) (S .site (d .site) .content) h)
+            elim (nth-either cs a c d e) [
+              | inl q ↦ keep (c .value) (S .site (c .site) .content) (ok .typed a c q live)
+              | inr p ↦ subst (Cell-typed (cs ++ d ∷ [])) (p .1) (keep (d .value) (S .site (d .site) .content) h)
             ];
       }
 
@@ -131,11 +131,11 @@ module _ {V : Type 0} (S : Sheet) where
       record {
         places = λ a k. keeps-write cs b c d q r a a (ok .places a k);
         typed = λ a x e live.
-            elim (cases-eq b a)
-            [ inl p ↦
-                let e′ : d ≡ x = some-inj (sym (nth-set-same cs b c d q) ∙ subst (λ (z : ℕ). nth (set cs b d) z ≡ Some x) (sym p) e) in
-                subst (Cell-typed (set cs b d)) e′ (keep (d .value) (S .site (d .site) .content) h)
-            | inr n ↦ keep (x .value) (S .site (x .site) .content) (ok .typed a x (sym (nth-set-other cs b a d n) ∙ e) live)
+            elim (cases-eq b a) [
+              | inl p ↦
+                  let e′ : d ≡ x = some-inj (sym (nth-set-same cs b c d q) ∙ subst (λ (z : ℕ). nth (set cs b d) z ≡ Some x) (sym p) e) in
+                  subst (Cell-typed (set cs b d)) e′ (keep (d .value) (S .site (d .site) .content) h)
+              | inr n ↦ keep (x .value) (S .site (x .site) .content) (ok .typed a x (sym (nth-set-other cs b a d n) ∙ e) live)
             ];
       }
 

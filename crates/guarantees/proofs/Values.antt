@@ -49,12 +49,12 @@ module _ {V : Type 0} (S : Sheet) (cs : List (Cell V)) where
   pub lookup-typed : (ρ : Environment V) (g : ℕ) (v : Value V) → Env-typed S cs ρ → lookup g ρ ≡ Some v → Has-type S cs v (argument-at S g)
   lookup-typed empty g v h e = none-some e
   lookup-typed (bind f w ρ) g v h e =
-      elim (cases-bool (eqb g f))
-      [ inl t ↦
-          let r : f ≡ g = sym (eqb-true g f t) in
-          let q : w ≡ v = some-inj (sym (cond-true (eqb g f) (Some w) (lookup g ρ) t) ∙ e) in
-          subst (λ (x : ℕ). Has-type S cs v (argument-at S x)) r (subst (λ (x : Value V). Has-type S cs x (argument-at S f)) q (h .0))
-      | inr t ↦ lookup-typed ρ g v (h .1) (sym (cond-false (eqb g f) (Some w) (lookup g ρ) t) ∙ e)
+      elim (cases-bool (eqb g f)) [
+        | inl t ↦
+            let r : f ≡ g = sym (eqb-true g f t) in
+            let q : w ≡ v = some-inj (sym (cond-true (eqb g f) (Some w) (lookup g ρ) t) ∙ e) in
+            subst (λ (x : ℕ). Has-type S cs v (argument-at S x)) r (subst (λ (x : Value V). Has-type S cs x (argument-at S f)) q (h .0))
+        | inr t ↦ lookup-typed ρ g v (h .1) (sym (cond-false (eqb g f) (Some w) (lookup g ρ) t) ∙ e)
       ]
 
 module _ {V : Type 0} (S : Sheet) where
@@ -66,9 +66,9 @@ module _ {V : Type 0} (S : Sheet) where
   -- what covers a function covers its body, with one binding more
   pub covers-body : (ρ : Environment V) (f p : ℕ) (v : Value V) → ((g : ℕ) → g ≢ f → Inside S p g → Inside S f g) → Covers S ρ f → Covers S (bind f v ρ) p
   covers-body ρ f p v out c g l k h =
-      elim (cases-bool (eqb g f))
-      [ inl t ↦ (v, cond-true (eqb g f) (Some v) (lookup g ρ) t)
-      | inr t ↦
-          let w = c g l k (out g (eqb-false g f t) h) in
-          (w .0, cond-false (eqb g f) (Some v) (lookup g ρ) t ∙ w .1)
+      elim (cases-bool (eqb g f)) [
+        | inl t ↦ (v, cond-true (eqb g f) (Some v) (lookup g ρ) t)
+        | inr t ↦
+            let w = c g l k (out g (eqb-false g f t) h) in
+            (w .0, cond-false (eqb g f) (Some v) (lookup g ρ) t ∙ w .1)
       ]
