@@ -56,6 +56,11 @@ module _ {V : Type 0} (S : Sheet) where
     extends = extends-trans S m cs (s .cells) (t .cells) (g .extends) (h .extends);
   }
 
+  -- and the later value, from where the earlier part began
+  pub gives-then : (m p q : ℕ) (cs : List (Cell V)) (f v : Value V) (s t : State V) → Gives S m p cs f s → Gives S m q (s .cells) v t → Gives S m q cs v t
+  gives-then m p q cs f v s t g h =
+      record { typed = h .typed; cells = h .cells; extends = extends-trans S m cs (s .cells) (t .cells) (g .extends) (h .extends) }
+
   -- after a part gave its value, what was ready is ready
   pub gives-ready : (m p i : ℕ) (ρ : Environment V) (cs : List (Cell V)) (v : Value V) (s : State V) → Gives S m p cs v s → Ready S i ρ cs →
       Ready S i ρ (s .cells)
@@ -96,4 +101,4 @@ module _ {V : Type 0} (S : Sheet) (ok : Typed-sheet S) (ev : Evaluator V) (ih : 
       let h′ : Gives S (control-at S i) (part S i 0) (s₁ .cells) v s₂ =
       gives-within S (control-at S i) (control-at S (part S i 0)) (part S i 0) (s₁ .cells) v s₂ w h in
       c f v s₂ (gives-later S (control-at S i) (part S i 1) (part S i 0) (s .cells) f v s₁ s₂ g h′)
-      (record { typed = h′ .typed; cells = h′ .cells; extends = extends-trans S (control-at S i) (s .cells) (s₁ .cells) (s₂ .cells) (g .extends) (h′ .extends) })))
+      (gives-then S (control-at S i) (part S i 1) (part S i 0) (s .cells) f v s₁ s₂ g h′)))

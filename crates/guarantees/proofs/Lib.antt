@@ -12,3 +12,4 @@ pub mod Soundness
 pub mod Visible
 pub mod Agreement
 pub mod Same
+pub mod Runs
