@@ -13,3 +13,4 @@ pub mod Visible
 pub mod Agreement
 pub mod Same
 pub mod Runs
+pub mod Agree
