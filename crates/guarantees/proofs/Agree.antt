@@ -28,7 +28,7 @@ use Rattle.guarantees.proofs.Agreement.{Pairs, Paired, Same-value, Same-env, C
 use Rattle.guarantees.proofs.Same.{same-lookup, stores-extend, stores-write}
 use Rattle.guarantees.proofs.Runs.{Runs-agree, Agrees, Part-agree, Parts-agree, agree-now, agree-after, agree-unseen}
 
-module _ {V : Type 0} (S : Sheet) (O : ℕ → Bool) (ok : Typed-sheet S) (ev : Evaluator V) (sd : Sound S ev) (ih : Agrees S O ev) where
+module _ {V : Type 0} (S : Sheet) (O : ℕ → Bool) (ok : Typed-sheet S) (ev ev′ : Evaluator V) (sd : Sound S ev) (sd′ : Sound S ev′) (ih : Agrees S O ev ev′) where
   -- what the function and the argument of application i gave
   abbrev Applied : ℕ → Pairs → List (Cell V) → List (Cell V) → Value V → Value V → State V → Value V → Value V → State V → Type 0
   Applied i β cs cs′ f v s f′ v′ s′ = Parts-agree S O (control-at S i) (part S i 1) (part S i 0) β cs cs′ f v s f′ v′ s′
@@ -36,14 +36,14 @@ module _ {V : Type 0} (S : Sheet) (O : ℕ → Bool) (ok : Typed-sheet S) (ev : 
   -- closures of one function, in environments that are the same
   apply-same : (i g : ℕ) (β : Pairs) (cs cs′ : List (Cell V)) (ρ ρ′ : Environment V) (v v′ : Value V) (s s′ : State V) → Node S Application i →
       (w : Applied i β cs cs′ (closure g ρ) v s (closure g ρ′) v′ s′) → Same-env S O (w .pairs) ρ ρ′ →
-      Both (Runs-agree S O i β) (apply ev i (closure g ρ) v s) (apply ev i (closure g ρ′) v′ s′)
+      Both (Runs-agree S O i β) (apply ev i (closure g ρ) v s) (apply ev′ i (closure g ρ′) v′ s′)
   apply-same i g β cs cs′ ρ ρ′ v v′ s s′ nd w al =
       let b : Called S i g ρ v (s .cells) = called S ok i g (control-at S i) ρ v cs s nd (w .first) (w .second) in
       let b′ : Called S i g ρ′ v′ (s′ .cells) = called S ok i g (control-at S i) ρ′ v′ cs′ s′ nd (w .first′) (w .second′) in
       both-provided (Runs-agree S O i β) (ltb (s .bindings) most-bindings) (ltb (s′ .bindings) most-bindings)
-      (λ _. ev (part S g 0) (bind g v ρ) (one-binding s)) (λ _. ev (part S g 0) (bind g v′ ρ′) (one-binding s′)) BindingsFull (s .steps) BindingsFull (s′ .steps)
+      (λ _. ev (part S g 0) (bind g v ρ) (one-binding s)) (λ _. ev′ (part S g 0) (bind g v′ ρ′) (one-binding s′)) BindingsFull (s .steps) BindingsFull (s′ .steps)
       (both-map (Runs-agree S O (part S g 0) (w .pairs)) (Runs-agree S O i β) (ev (part S g 0) (bind g v ρ) (one-binding s))
-      (ev (part S g 0) (bind g v′ ρ′) (one-binding s′))
+      (ev′ (part S g 0) (bind g v′ ρ′) (one-binding s′))
       (ih (part S g 0) (bind g v ρ) (bind g v′ ρ′) (one-binding s) (one-binding s′) (w .pairs) (b .ready) (b′ .ready)
       (refl, (λ l. w .same-second (visible-fit O S (type-at S (part S i 0)) (argument-at S g) (b .passed) l)), al) (w .agree))
       (λ x t x′ t′ l. agree-after S O i (part S g 0) β (w .pairs) x x′ t t′ (b .result) (w .more) l))
@@ -51,34 +51,34 @@ module _ {V : Type 0} (S : Sheet) (O : ℕ → Bool) (ok : Typed-sheet S) (ev : 
   -- closures that need not be the same, for the observer does not see the labels of the function
   apply-unseen : (i g g′ : ℕ) (β : Pairs) (cs cs′ : List (Cell V)) (ρ ρ′ : Environment V) (v v′ : Value V) (s s′ : State V) → Node S Application i →
       (w : Applied i β cs cs′ (closure g ρ) v s (closure g′ ρ′) v′ s′) → (Visible O (set-at S (part S i 1)) → ⊥) →
-      Both (Runs-agree S O i β) (apply ev i (closure g ρ) v s) (apply ev i (closure g′ ρ′) v′ s′)
+      Both (Runs-agree S O i β) (apply ev i (closure g ρ) v s) (apply ev′ i (closure g′ ρ′) v′ s′)
   apply-unseen i g g′ β cs cs′ ρ ρ′ v v′ s s′ nd w n =
       let b : Called S i g ρ v (s .cells) = called S ok i g (control-at S i) ρ v cs s nd (w .first) (w .second) in
       let b′ : Called S i g′ ρ′ v′ (s′ .cells) = called S ok i g′ (control-at S i) ρ′ v′ cs′ s′ nd (w .first′) (w .second′) in
       let A : ℕ = set-at S (part S i 1) in
       both-provided (Runs-agree S O i β) (ltb (s .bindings) most-bindings) (ltb (s′ .bindings) most-bindings)
-      (λ _. ev (part S g 0) (bind g v ρ) (one-binding s)) (λ _. ev (part S g′ 0) (bind g′ v′ ρ′) (one-binding s′)) BindingsFull (s .steps) BindingsFull (s′ .steps)
+      (λ _. ev (part S g 0) (bind g v ρ) (one-binding s)) (λ _. ev′ (part S g′ 0) (bind g′ v′ ρ′) (one-binding s′)) BindingsFull (s .steps) BindingsFull (s′ .steps)
       (agree-unseen S O i (part S g 0) (part S g′ 0) A β (w .pairs) (s .cells) (s′ .cells)
-      (ev (part S g 0) (bind g v ρ) (one-binding s)) (ev (part S g′ 0) (bind g′ v′ ρ′) (one-binding s′)) n
+      (ev (part S g 0) (bind g v ρ) (one-binding s)) (ev′ (part S g′ 0) (bind g′ v′ ρ′) (one-binding s′)) n
       (b .control A (nd .typing .2)) (b′ .control A (nd .typing .2)) (nd .typing .4 .1) (w .more) (w .agree)
-      (sd (part S g 0) (bind g v ρ) (one-binding s) (b .ready)) (sd (part S g′ 0) (bind g′ v′ ρ′) (one-binding s′) (b′ .ready)))
+      (sd (part S g 0) (bind g v ρ) (one-binding s) (b .ready)) (sd′ (part S g′ 0) (bind g′ v′ ρ′) (one-binding s′) (b′ .ready)))
 
   -- two closures, by whether the observer sees the labels of the function
   apply-closures : (i g g′ : ℕ) (β : Pairs) (cs cs′ : List (Cell V)) (ρ ρ′ : Environment V) (v v′ : Value V) (s s′ : State V) → Node S Application i →
       Applied i β cs cs′ (closure g ρ) v s (closure g′ ρ′) v′ s′ →
-      Both (Runs-agree S O i β) (apply ev i (closure g ρ) v s) (apply ev i (closure g′ ρ′) v′ s′)
+      Both (Runs-agree S O i β) (apply ev i (closure g ρ) v s) (apply ev′ i (closure g′ ρ′) v′ s′)
   apply-closures i g g′ β cs cs′ ρ ρ′ v v′ s s′ nd w =
-      elim (visible-or-not O (set-at S (part S i 1)))
-      [ inr n ↦ apply-unseen i g g′ β cs cs′ ρ ρ′ v v′ s s′ nd w n
-      | inl l ↦
-          subst (λ (x : ℕ). (y : Applied i β cs cs′ (closure g ρ) v s (closure x ρ′) v′ s′) → Same-env S O (y .pairs) ρ ρ′ →
-          Both (Runs-agree S O i β) (apply ev i (closure g ρ) v s) (apply ev i (closure x ρ′) v′ s′))
-          (w .same-first l .0) (λ y. apply-same i g β cs cs′ ρ ρ′ v v′ s s′ nd y) w (w .same-first l .1)
+      elim (visible-or-not O (set-at S (part S i 1))) [
+        | inr n ↦ apply-unseen i g g′ β cs cs′ ρ ρ′ v v′ s s′ nd w n
+        | inl l ↦
+            subst (λ (x : ℕ). (y : Applied i β cs cs′ (closure g ρ) v s (closure x ρ′) v′ s′) → Same-env S O (y .pairs) ρ ρ′ →
+            Both (Runs-agree S O i β) (apply ev i (closure g ρ) v s) (apply ev′ i (closure x ρ′) v′ s′))
+            (w .same-first l .0) (λ y. apply-same i g β cs cs′ ρ ρ′ v v′ s s′ nd y) w (w .same-first l .1)
       ]
 
   -- an application
   pub agree-apply : (i : ℕ) (β : Pairs) (cs cs′ : List (Cell V)) (f v f′ v′ : Value V) (s s′ : State V) → Node S Application i →
-      Applied i β cs cs′ f v s f′ v′ s′ → Both (Runs-agree S O i β) (apply ev i f v s) (apply ev i f′ v′ s′)
+      Applied i β cs cs′ f v s f′ v′ s′ → Both (Runs-agree S O i β) (apply ev i f v s) (apply ev′ i f′ v′ s′)
   agree-apply i β cs cs′ (number n) v f′ v′ s s′ nd w = tt
   agree-apply i β cs cs′ (reference a) v f′ v′ s s′ nd w = tt
   agree-apply i β cs cs′ (closure g ρ) v (number n) v′ s s′ nd w = both-stop (Runs-agree S O i β) (apply ev i (closure g ρ) v s) (Stuck i) (s′ .steps)
@@ -99,7 +99,7 @@ module _ {V : Type 0} (S : Sheet) (O : ℕ → Bool) (ok : Typed-sheet S) (ev : 
       let q : h .2 .0 ≡ c .site = sited S t a c (s .cells) h e in
       let q′ : h′ .2 .0 ≡ c′ .site = sited S t a′ c′ (s′ .cells) h′ e′ in
       let f : Fit S (type-at S (part S i 0)) (S .site (c .site) .content) =
-              subst (λ (x : ℕ). Fit S (type-at S (part S i 0)) (S .site x .content)) q (nd .typing .1 (h .2 .0) (h .2 .2) .0 .0) in
+      subst (λ (x : ℕ). Fit S (type-at S (part S i 0)) (S .site x .content)) q (nd .typing .1 (h .2 .0) (h .2 .2) .0 .0) in
       let u : Within A (content-set S (c .site)) = subst (λ (x : ℕ). Within A (content-set S x)) q (nd .typing .1 (h .2 .0) (h .2 .2) .0 .1) in
       let u′ : Within A (content-set S (c′ .site)) = subst (λ (x : ℕ). Within A (content-set S x)) q′ (nd .typing .1 (h′ .2 .0) (h′ .2 .2) .0 .1) in
       let d : Cell V = record { site = c .site; value = v } in
@@ -108,14 +108,14 @@ module _ {V : Type 0} (S : Sheet) (O : ℕ → Bool) (ok : Typed-sheet S) (ev : 
         pairs = w .pairs;
         more = w .more;
         same = λ l. w .same-second (visible-fit O S (type-at S (part S i 0)) (type-at S i) (nd .typing .2) l);
-        agree = elim (visible-or-not O A)
-            [ inl l ↦
-                stores-write S O (w .pairs) (s .cells) (s′ .cells) a a′ c c′ d d′ (w .agree) (w .same-first l) e e′ refl refl
-                (λ k. w .same-second (visible-fit O S (type-at S (part S i 0)) (S .site (c .site) .content) f k))
-            | inr n ↦
-                stores-extend S O (w .pairs) A A (s .cells) (s′ .cells) (set (s .cells) a d) (set (s′ .cells) a′ d′) n n
-                (extends-write S A (s .cells) a c d e refl u) (extends-write S A (s′ .cells) a′ c′ d′ e′ refl u′) (w .agree)
-            ];
+        agree = elim (visible-or-not O A) [
+          | inl l ↦
+              stores-write S O (w .pairs) (s .cells) (s′ .cells) a a′ c c′ d d′ (w .agree) (w .same-first l) e e′ refl refl
+              (λ k. w .same-second (visible-fit O S (type-at S (part S i 0)) (S .site (c .site) .content) f k))
+          | inr n ↦
+              stores-extend S O (w .pairs) A A (s .cells) (s′ .cells) (set (s .cells) a d) (set (s′ .cells) a′ d′) n n
+              (extends-write S A (s .cells) a c d e refl u) (extends-write S A (s′ .cells) a′ c′ d′ e′ refl u′) (w .agree)
+        ];
       }
 
   -- a write
@@ -137,7 +137,7 @@ module _ {V : Type 0} (S : Sheet) (O : ℕ → Bool) (ok : Typed-sheet S) (ev : 
   agree-loaded i a a′ β s s′ nd t w (Some c) (Some c′) e e′ =
       let rule = nd .typing .1 (t .2 .0) (t .2 .2) in
       let f : Fit S (S .site (c .site) .content) (type-at S i) =
-              subst (λ (x : ℕ). Fit S (S .site x .content) (type-at S i)) (sited S (type-at S (part S i 0)) a c (s .cells) t e) (rule .0) in
+      subst (λ (x : ℕ). Fit S (S .site x .content) (type-at S i)) (sited S (type-at S (part S i 0)) a c (s .cells) t e) (rule .0) in
       record {
         pairs = w .pairs;
         more = w .more;

@@ -14,3 +14,4 @@ pub mod Agreement
 pub mod Same
 pub mod Runs
 pub mod Agree
+pub mod AgreeRuns

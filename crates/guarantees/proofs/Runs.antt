@@ -25,11 +25,11 @@ pub record Runs-agree {V : Type 0} (S : Sheet) (O : ℕ → Bool) (i : ℕ) (β 
   pub same : Visible O (set-at S i) → Same-value S O pairs v v′
   pub agree : Stores-agree S O pairs (s .cells) (s′ .cells)
 
--- `ev` agrees with itself: two runs of one node do, from environments that are the same and stores that agree
-abbrev pub Agrees : {V : Type 0} → Sheet → (ℕ → Bool) → Evaluator V → Type 0
-Agrees {V} S O ev =
+-- two evaluators, whose fuel may differ, agree: two runs of one node do, from environments that are the same and stores that agree
+abbrev pub Agrees : {V : Type 0} → Sheet → (ℕ → Bool) → Evaluator V → Evaluator V → Type 0
+Agrees {V} S O ev ev′ =
     (i : ℕ) (ρ ρ′ : Environment V) (s s′ : State V) (β : Pairs) → Ready S i ρ (s .cells) → Ready S i ρ′ (s′ .cells) →
-    Same-env S O β ρ ρ′ → Stores-agree S O β (s .cells) (s′ .cells) → Both (Runs-agree S O i β) (ev i ρ s) (ev i ρ′ s′)
+    Same-env S O β ρ ρ′ → Stores-agree S O β (s .cells) (s′ .cells) → Both (Runs-agree S O i β) (ev i ρ s) (ev′ i ρ′ s′)
 
 -- what a node's two runs begin with
 pub record Starts {V : Type 0} (S : Sheet) (O : ℕ → Bool) (i : ℕ) (ρ ρ′ : Environment V) (cs cs′ : List (Cell V)) (β : Pairs) : Type 0 where
@@ -108,13 +108,13 @@ module _ {V : Type 0} (S : Sheet) (O : ℕ → Bool) (ok : Typed-sheet S) where
     agree = a .link .agree;
   }
 
-module _ {V : Type 0} (S : Sheet) (O : ℕ → Bool) (ok : Typed-sheet S) (ev : Evaluator V) (sd : Sound S ev) (ih : Agrees S O ev) where
+module _ {V : Type 0} (S : Sheet) (O : ℕ → Bool) (ok : Typed-sheet S) (ev ev′ : Evaluator V) (sd : Sound S ev) (sd′ : Sound S ev′) (ih : Agrees S O ev ev′) where
   -- two runs of a part, under its node's control set
   pub agree-part : (m p : ℕ) (ρ ρ′ : Environment V) (s s′ : State V) (β : Pairs) → Within m (control-at S p) →
-      Starts S O p ρ ρ′ (s .cells) (s′ .cells) β → Both (Part-agree S O m p β (s .cells) (s′ .cells)) (ev p ρ s) (ev p ρ′ s′)
+      Starts S O p ρ ρ′ (s .cells) (s′ .cells) β → Both (Part-agree S O m p β (s .cells) (s′ .cells)) (ev p ρ s) (ev′ p ρ′ s′)
   agree-part m p ρ ρ′ s s′ β u b =
-      both-with (Gives-own S p (s .cells)) (Gives-own S p (s′ .cells)) (Runs-agree S O p β) (Part-agree S O m p β (s .cells) (s′ .cells)) (ev p ρ s) (ev p ρ′ s′)
-      (sd p ρ s (b .left)) (sd p ρ′ s′ (b .right)) (ih p ρ ρ′ s s′ β (b .left) (b .right) (b .same) (b .agree))
+      both-with (Gives-own S p (s .cells)) (Gives-own S p (s′ .cells)) (Runs-agree S O p β) (Part-agree S O m p β (s .cells) (s′ .cells)) (ev p ρ s) (ev′ p ρ′ s′)
+      (sd p ρ s (b .left)) (sd′ p ρ′ s′ (b .right)) (ih p ρ ρ′ s s′ β (b .left) (b .right) (b .same) (b .agree))
       (λ v t v′ t′ g g′ l.
       record {
         left = gives-within S m (control-at S p) p (s .cells) v t u g;
@@ -129,17 +129,17 @@ module _ {V : Type 0} (S : Sheet) (O : ℕ → Bool) (ok : Typed-sheet S) (ev : 
       ((f v f′ v′ : Value V) (t t′ : State V) → Parts-agree S O (control-at S i) (part S i 1) (part S i 0) β (s .cells) (s′ .cells) f v t f′ v′ t′ →
       Both (Runs-agree S O i β) (next f v t) (next′ f′ v′ t′)) →
       Both (Runs-agree S O i β) (and-then (ev (part S i 1) ρ s) (λ f s₁. and-then (ev (part S i 0) ρ s₁) (λ v s₂. next f v s₂)))
-      (and-then (ev (part S i 1) ρ′ s′) (λ f s₁. and-then (ev (part S i 0) ρ′ s₁) (λ v s₂. next′ f v s₂)))
+      (and-then (ev′ (part S i 1) ρ′ s′) (λ f s₁. and-then (ev′ (part S i 0) ρ′ s₁) (λ v s₂. next′ f v s₂)))
   agree-two k i ρ ρ′ s s′ β next next′ nd o l u w b c =
       let m : ℕ = control-at S i in
       let p : ℕ = part S i 1 in
       let q : ℕ = part S i 0 in
-      both-then (Part-agree S O m p β (s .cells) (s′ .cells)) (Runs-agree S O i β) (ev p ρ s) (ev p ρ′ s′)
-      (λ f s₁. and-then (ev q ρ s₁) (λ v s₂. next f v s₂)) (λ f s₁. and-then (ev q ρ′ s₁) (λ v s₂. next′ f v s₂))
+      both-then (Part-agree S O m p β (s .cells) (s′ .cells)) (Runs-agree S O i β) (ev p ρ s) (ev′ p ρ′ s′)
+      (λ f s₁. and-then (ev q ρ s₁) (λ v s₂. next f v s₂)) (λ f s₁. and-then (ev′ q ρ′ s₁) (λ v s₂. next′ f v s₂))
       (agree-part m p ρ ρ′ s s′ β u (starts-part S O ok k i 1 ρ ρ′ (s .cells) (s′ .cells) β nd o l b))
       (λ f s₁ f′ s₁′ x.
       let γ : Pairs = x .link .pairs in
-      both-then (Part-agree S O m q γ (s₁ .cells) (s₁′ .cells)) (Runs-agree S O i β) (ev q ρ s₁) (ev q ρ′ s₁′) (λ v s₂. next f v s₂) (λ v s₂. next′ f′ v s₂)
+      both-then (Part-agree S O m q γ (s₁ .cells) (s₁′ .cells)) (Runs-agree S O i β) (ev q ρ s₁) (ev′ q ρ′ s₁′) (λ v s₂. next f v s₂) (λ v s₂. next′ f′ v s₂)
       (agree-part m q ρ ρ′ s₁ s₁′ γ w
       (starts-later S O ok q p m ρ ρ′ (s .cells) (s′ .cells) β f f′ s₁ s₁′ x
       (starts-part S O ok k i 0 ρ ρ′ (s .cells) (s′ .cells) β nd o (omega arith) b)))
