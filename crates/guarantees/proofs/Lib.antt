@@ -15,3 +15,6 @@ pub mod Same
 pub mod Runs
 pub mod Agree
 pub mod AgreeRuns
+pub mod Opening
+pub mod Promised
+pub mod Shaped
