@@ -5,27 +5,13 @@ use Prim.Native.Nat.{ℕ, zero, suc}
 use Rattle.sheet.specs.declared.decoded.Form.the-variants as form
 use Rattle.sheet.specs.Sheet.{Sheet}
 use Rattle.typing.specs.Rules.{Within, Fits, Fit}
+use Rattle.typing.proofs.Exactly.{fit-trans}
 
 -- within a set that is within another
 pub within-trans : (A B C : ℕ) → Within A B → Within B C → Within A C
 within-trans A B C h k a t = k a (h a t)
 
 module _ (S : Sheet) where
-  -- fitting a type that fits another
-  fits-trans : (n X Y Z : ℕ) → Fits S n X Y → Fits S n Y Z → Fits S n X Z
-  unfolding Fits
-  fits-trans zero X Y Z h k = h
-  fits-trans (suc n) X Y Z h k = (
-    h .0 ∙ k .0,
-    within-trans (S .type X .set) (S .type Y .set) (S .type Z .set) (h .1) (k .1),
-    (λ e s t. k .2 e s (h .2 (k .0 ∙ e) s t)),
-    (λ e. (
-      fits-trans n (S .type Z .argument) (S .type Y .argument) (S .type X .argument) (k .3 e .0) (h .3 (k .0 ∙ e) .0),
-      fits-trans n (S .type X .result) (S .type Y .result) (S .type Z .result) (h .3 (k .0 ∙ e) .1) (k .3 e .1),
-      within-trans (S .type Z .effect) (S .type Y .effect) (S .type X .effect) (k .3 e .2) (h .3 (k .0 ∙ e) .2),
-    )),
-  )
-
   -- looked at one deeper
   fits-more : (n X Y : ℕ) → Fits S n X Y → Fits S (suc n) X Y
   unfolding Fits
@@ -37,10 +23,6 @@ module _ (S : Sheet) where
     λ e.
         (fits-more n (S .type Y .argument) (S .type X .argument) (h .3 e .0), fits-more n (S .type X .result) (S .type Y .result) (h .3 e .1), h .3 e .2),
   )
-
-  pub fit-trans : (X Y Z : ℕ) → Fit S X Y → Fit S Y Z → Fit S X Z
-  unfolding Fit
-  fit-trans X Y Z h k = fits-trans 8 X Y Z h k
 
   -- what a type that fits has in common with the other: form, labels, sites, argument, result, effect
   pub fit-form : (X Y : ℕ) → Fit S X Y → S .type X .form ≡ S .type Y .form
@@ -73,7 +55,7 @@ module _ (S : Sheet) where
 
   pub upto-fit : (X Y Z : ℕ) → Upto X Y → Fit S Y Z → Fit S X Z
   upto-fit X Y Z (inl e) k = subst (λ (x : ℕ). Fit S x Z) (sym e) k
-  upto-fit X Y Z (inr h) k = fit-trans X Y Z h k
+  upto-fit X Y Z (inr h) k = fit-trans S X Y Z h k
 
   pub upto-form : (X Y : ℕ) → Upto X Y → S .type X .form ≡ S .type Y .form
   upto-form X Y (inl e) = ap (λ (x : ℕ). S .type x .form) e
@@ -81,11 +63,11 @@ module _ (S : Sheet) where
 
   pub upto-argument : (X Y Z : ℕ) → Upto X Y → S .type Y .form ≡ form.Function → Fit S Z (S .type Y .argument) → Fit S Z (S .type X .argument)
   upto-argument X Y Z (inl e) f k = subst (λ (x : ℕ). Fit S Z (S .type x .argument)) (sym e) k
-  upto-argument X Y Z (inr h) f k = fit-trans Z (S .type Y .argument) (S .type X .argument) k (fit-argument X Y h f)
+  upto-argument X Y Z (inr h) f k = fit-trans S Z (S .type Y .argument) (S .type X .argument) k (fit-argument X Y h f)
 
   pub upto-result : (X Y Z : ℕ) → Upto X Y → S .type Y .form ≡ form.Function → Fit S (S .type Y .result) Z → Fit S (S .type X .result) Z
   upto-result X Y Z (inl e) f k = subst (λ (x : ℕ). Fit S (S .type x .result) Z) (sym e) k
-  upto-result X Y Z (inr h) f k = fit-trans (S .type X .result) (S .type Y .result) Z (fit-result X Y h f) k
+  upto-result X Y Z (inr h) f k = fit-trans S (S .type X .result) (S .type Y .result) Z (fit-result X Y h f) k
 
   pub upto-effect : (X Y A : ℕ) → Upto X Y → S .type Y .form ≡ form.Function → Within A (S .type Y .effect) → Within A (S .type X .effect)
   upto-effect X Y A (inl e) f k = subst (λ (x : ℕ). Within A (S .type x .effect)) (sym e) k

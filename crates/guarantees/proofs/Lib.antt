@@ -17,4 +17,5 @@ pub mod Agree
 pub mod AgreeRuns
 pub mod Opening
 pub mod Promised
-pub mod Shaped
+pub mod Admitted
+pub mod Derive

@@ -33,26 +33,6 @@ number-reference e d = let z : _≡_ {A = ℕ} 0 1 = cc in absurd (omega arith)
 pub function-reference : {X : Type 0} {f : Form} → f ≡ form.Function → f ≡ form.Reference → X
 function-reference e d = let z : _≡_ {A = ℕ} 0 1 = cc in absurd (omega arith)
 
--- what the tests of form and kind say
-lambda-means : (k : Kind) → is-lambda k ≡ true → k ≡ Lambda
-lambda-means Literal h = absurd (true≢false (sym h))
-lambda-means Variable h = absurd (true≢false (sym h))
-lambda-means Lambda h = refl
-lambda-means Application h = absurd (true≢false (sym h))
-lambda-means New h = absurd (true≢false (sym h))
-lambda-means Channel h = absurd (true≢false (sym h))
-lambda-means Read h = absurd (true≢false (sym h))
-lambda-means Write h = absurd (true≢false (sym h))
-lambda-means Choice h = absurd (true≢false (sym h))
-lambda-means Operation h = absurd (true≢false (sym h))
-lambda-means Unknown h = absurd (true≢false (sym h))
-
-number-means : (f : Form) → is-number f ≡ true → f ≡ form.Number
-number-means form.Number h = refl
-number-means form.Function h = absurd (true≢false (sym h))
-number-means form.Reference h = absurd (true≢false (sym h))
-number-means form.Unknown h = absurd (true≢false (sym h))
-
 -- a kind other than a function's
 abbrev pub Other : Kind → Type 0
 Other k = is-lambda k ≡ false
@@ -86,43 +66,21 @@ module _ (S : Sheet) (ok : Typed-sheet S) where
     control = subst (λ (x : Kind). Controlled S x i) e (ok .rules i l .1);
   }
 
-  -- its argument is lawful
-  argument-of : (k : Kind) (i : ℕ) → Node S k i → lawful-argument S (S .node i) k ≡ true
-  argument-of k i n =
-      let h : lawful-node S i ≡ true = ok .nodes i (n .below) in
-      let z : lawful-argument S (S .node i) (S .node i .kind) ≡ true = grind arith in
-      subst (λ (x : Kind). lawful-argument S (S .node i) x ≡ true) (n .kind) z
-
   -- a variable stands inside the function that it names
   pub variable-of : (i : ℕ) → Node S Variable i →
       (S .node i .argument < S .nodes) × (S .node (S .node i .argument) .kind ≡ Lambda) × Inside S i (S .node i .argument)
-  variable-of i n =
-      let a : lawful-argument S (S .node i) Variable ≡ true = argument-of Variable i n in
-      let b : bound-by S i (S .node i) Variable ≡ true = subst (λ (x : Kind). bound-by S i (S .node i) x ≡ true) (n .kind) (ok .variables i (n .below)) in
-      let l : is-lambda (S .node (S .node i .argument) .kind) ≡ true = grind arith in
-      let c : in-body S i (S .node i .argument) ≡ true = grind arith in
-      let before : i < S .node i .argument = grind (arith, tells) in
-      let near : S .node i .argument < i + S .node (S .node i .argument) .size = grind (arith, tells) in
-      (grind (arith, tells), lambda-means _ l, ((omega arith, near), before))
+  variable-of i n = let v = ok .shape .variable i (n .below) (n .kind) in (v .0, v .1, (v .3, v .2))
 
   -- a channel node names a channel
   pub channel-of : (i : ℕ) → Node S Channel i → Is-channel S (S .node i .argument)
-  channel-of i n =
-      let a : lawful-argument S (S .node i) Channel ≡ true = argument-of Channel i n in
-      (grind (arith, tells), grind (arith, tells))
-
-  -- a channel holds a number
-  pub numeric : (s : ℕ) → Is-channel S s → S .type (S .site s .content) .form ≡ form.Number
-  numeric s (l, f) =
-      let h : lawful-site S s ≡ true = ok .sites s l in
-      number-means _ (grind (arith, tells))
+  channel-of i n = ok .shape .channel i (n .below) (n .kind)
 
   -- a part of a node that is no function is ready where the node is
   pub ready-part : {V : Type 0} (k : Kind) (i q : ℕ) (ρ : Environment V) (cs : List (Cell V)) → Node S k i → Other k → q < parts-of k →
       Ready S i ρ cs → Ready S (part S i q) ρ cs
   ready-part k i q ρ cs n o h r =
       let p : q < parts-of (S .node i .kind) = subst (λ (x : Kind). q < parts-of x) (sym (n .kind)) h in
-      let f : part S i q < i = nesting S (ok .nodes) .parts i q (n .below) p .0 in
+      let f : part S i q < i = ok .shape .nesting .parts i q (n .below) p .0 in
       record {
         below = omega (arith, n .below);
         covers = covers-part S ρ i (part S i q) (λ e. not-lambda k o (sym (n .kind) ∙ e)) (λ g. part-out S (ok .nodes) i q g (n .below) p) (r .covers);

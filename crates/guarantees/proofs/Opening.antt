@@ -16,7 +16,6 @@ use Rattle.evaluation.specs.Runs.{site-cells, number-or, written}
 use Rattle.guarantees.specs.Sheets.{Typed-sheet, Channel, Visible, content-set}
 use Rattle.guarantees.proofs.Addresses.{some-inj, none-some, nth-below}
 use Rattle.guarantees.proofs.Typed.{Has-type, Store-typed}
-use Rattle.guarantees.proofs.Nodes.{numeric}
 use Rattle.guarantees.proofs.Agreement.{Pairs, Paired, Stores-agree}
 
 module _ {V : Type 0} where
@@ -71,7 +70,7 @@ module _ {V : Type 0} (S : Sheet) (ok : Typed-sheet S) where
         let p = place-at ns a c e in
         let l : a < length ns = nth-below ns a (p .0) (p .1) in
         let b : a < S .sites = omega arith in
-        subst (λ (x : Cell V). Has-type S (site-cells 0 ns) (x .value) (S .site (x .site) .content)) (p .2) (numeric S ok a (b, live b));
+        subst (λ (x : Cell V). Has-type S (site-cells 0 ns) (x .value) (S .site (x .site) .content)) (p .2) (ok .shape .numeric a b (live b));
   }
 
 -- the channels below n, each paired with itself

@@ -25,7 +25,7 @@ use Rattle.guarantees.proofs.Outcomes.{Post, Both, post-done, both-done}
 use Rattle.guarantees.proofs.Addresses.{some-inj}
 use Rattle.guarantees.proofs.Typed.{Has-type, Store-typed}
 use Rattle.guarantees.proofs.Stores.{Unchanged, After, extends-at}
-use Rattle.guarantees.proofs.Nodes.{number-function, number-reference, numeric, Ready}
+use Rattle.guarantees.proofs.Nodes.{number-function, number-reference, Ready}
 use Rattle.guarantees.proofs.Gives.{Gives, Gives-own, closure-form}
 use Rattle.guarantees.proofs.Soundness.{sound}
 use Rattle.guarantees.proofs.Visible.{visible-within, not-visible}
@@ -44,8 +44,8 @@ module _ (M : NumberKind) (S : Sheet) (ok : Typed-sheet S) where
   -- the root of an entry is ready for the opening store: it stands in no function
   ready-root : (e : ℕ) (ns : List V) → e < S .entries → length ns ≡ S .sites → Ready S (root e) empty (site-cells 0 ns)
   ready-root e ns l h = record {
-    below = ok .forest .rooted e l;
-    covers = λ g b k i. let o : g ≡ root e = ok .forest .outermost e g l b (i .0) in absurd (omega (arith, i .1));
+    below = ok .shape .forest .rooted e l;
+    covers = λ g b k i. let o : g ≡ root e = ok .shape .forest .outermost e g l b (i .0) in absurd (omega (arith, i .1));
     all = tt;
     cells = opening-typed S ok ns h;
   }
@@ -117,7 +117,7 @@ module _ (M : NumberKind) (S : Sheet) (ok : Typed-sheet S) where
       let m : Cells-agree S O β cs cs′ s s = A .match s s (A .places s c) in
       let p = g .places s (c .0) in
       let q : m .left .site ≡ s = ap (λ (x : Cell V). x .site) (some-inj (sym (m .at-left) ∙ p .1)) ∙ p .2 in
-      let f : S .type (S .site (m .left .site) .content) .form ≡ form.Number = ap (λ (x : ℕ). S .type (S .site x .content) .form) q ∙ numeric S ok s c in
+      let f : S .type (S .site (m .left .site) .content) .form ≡ form.Number = ap (λ (x : ℕ). S .type (S .site x .content) .form) q ∙ ok .shape .numeric s (c .0) (c .1) in
       let k = same-number O β cs (S .site (m .left .site) .content) (m .left .value) (m .right .value) (n .0) (n′ .0) f
       (g .typed s (m .left) (m .at-left) (λ _. c .1)) (m .same (subst (λ (x : ℕ). Visible O (content-set S x)) (sym q) v)) in
       read-back cs ns s (m .left) (n .0) (m .at-left) (n .1) ∙ (ap Some k ∙ sym (read-back cs′ ns′ s (m .right) (n′ .0) (m .at-right) (n′ .1)))

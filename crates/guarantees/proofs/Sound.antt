@@ -15,10 +15,11 @@ use Rattle.evaluation.specs.declared.ending.Stop.the-variants.{BindingsFull}
 use Rattle.evaluation.specs.Values.{Value, number, closure, reference, Environment, bind, Cell, State, stopped, Evaluator, lookup, one-binding}
 use Rattle.evaluation.specs.Evaluation.{most-bindings, found, loaded, load, stored, store, apply}
 use Rattle.typing.specs.Rules.{Within, Fit, type-at, argument-at, result-at, effect-at, control-at}
+use Rattle.typing.proofs.Exactly.{fit-trans}
 use Rattle.guarantees.specs.Sheets.{Typed-sheet, content-set}
 use Rattle.guarantees.proofs.Outcomes.{Post, post-map, post-provided}
 use Rattle.guarantees.proofs.Addresses.{none-some}
-use Rattle.guarantees.proofs.Fitting.{within-trans, fit-trans, upto-argument, upto-result, upto-effect}
+use Rattle.guarantees.proofs.Fitting.{within-trans, upto-argument, upto-result, upto-effect}
 use Rattle.guarantees.proofs.Typed.{Has-type, Env-typed, Store-typed}
 use Rattle.guarantees.proofs.Values.{typed-keeps, typed-fit, lookup-typed}
 use Rattle.guarantees.proofs.Stores.{Extends, extends-refl, extends-trans, extends-write, keeps-write, store-write}

@@ -15,12 +15,13 @@ use Rattle.evaluation.specs.declared.ending.Ending.{Ending}
 use Rattle.evaluation.specs.declared.ending.Ending.the-variants.{Number}
 use Rattle.evaluation.specs.Endings.{number-of}
 use Rattle.evaluation.specs.Runs.{numbers-after, run, run-report}
-use Rattle.typing.specs.Rules.{set-at, control-at, Keeps-rules}
-use Rattle.guarantees.specs.Sheets.{Number-roots, Channel, Visible, content-set}
+use Rattle.typing.specs.Rules.{set-at, control-at}
+use Rattle.admission.specs.Meaning.{Is-admitted}
+use Rattle.guarantees.specs.Sheets.{Channel, Visible, content-set}
 
--- of every sheet that is shaped, whose nodes keep the rules and whose entries' roots give numbers
-abbrev pub Of-typed-sheets : (Sheet → Type 0) → Type 0
-Of-typed-sheets P = (rs : List Row) → Is-shaped rs → Keeps-rules (view rs) → Number-roots (view rs) → P (view rs)
+-- of every sheet that is shaped, and that is admitted under a relation of n labels
+abbrev pub Of-admitted : ((ℕ → ℕ → Bool) → Sheet → Type 0) → Type 0
+Of-admitted P = (n : ℕ) (flows : ℕ → ℕ → Bool) (rs : List Row) → Is-shaped rs → Is-admitted n flows (view rs) → P flows (view rs)
 
 -- an ending other than stuck, 5, and no number, 6
 pub record Ends-soundly (e : Ending) : Type 0 where

@@ -5,22 +5,20 @@ use Prim.Native.Nat.{ℕ, _<_}
 use Rattle.sheet.specs.declared.decoded.Form.the-variants as form
 use Rattle.sheet.specs.Sets.{has}
 use Rattle.sheet.specs.Sheet.{Sheet, In-span}
-use Rattle.shaping.specs.Sites.{lawful-site}
-use Rattle.shaping.specs.Nodes.{lawful-node, bound}
-use Rattle.shaping.specs.Meaning.{Each, Forest}
+use Rattle.shaping.specs.Nodes.{lawful-node}
+use Rattle.shaping.specs.Meaning.{Each}
 use Rattle.typing.specs.Rules.{form-at, Keeps-rules}
+use Rattle.admission.specs.Meaning.{Well-shaped}
 
 -- each entry's root gives a number
 abbrev pub Number-roots : Sheet → Type 0
 Number-roots S = (e : ℕ) → e < S .entries → form-at S (S .entry e .root) ≡ form.Number
 
--- a well-typed sheet: its nodes, variables and sites are lawful, its entries' trees are disjoint and cover all nodes, every node
--- keeps the rules of types and control, and every entry's root gives a number
+-- a well-typed sheet: its nodes are lawful, so that the parts of a node follow one another; its trees, variables, channels and
+-- sites are in order; every node keeps the rules of types and control; and every entry's root gives a number
 pub record Typed-sheet (S : Sheet) : Type 0 where
   pub nodes : Each (S .nodes) (lawful-node S)
-  pub variables : Each (S .nodes) (bound S)
-  pub sites : Each (S .sites) (lawful-site S)
-  pub forest : Forest S
+  pub shape : Well-shaped S
   pub rules : Keeps-rules S
   pub roots : Number-roots S
 
