@@ -21,12 +21,12 @@ use Rattle.guarantees.proofs.Addresses.{some-inj}
 use Rattle.guarantees.proofs.Typed.{Has-type}
 use Rattle.guarantees.proofs.Stores.{extends-write}
 use Rattle.guarantees.proofs.Nodes.{Node}
-use Rattle.guarantees.proofs.Gives.{Gives, Sound, sited}
+use Rattle.guarantees.proofs.Gives.{Sound, sited}
 use Rattle.guarantees.proofs.Sound.{Called, called}
 use Rattle.guarantees.proofs.Visible.{visible-or-not, visible-within, visible-fit}
 use Rattle.guarantees.proofs.Agreement.{Pairs, Paired, Same-value, Same-env, Cells-agree, Stores-agree}
 use Rattle.guarantees.proofs.Same.{same-lookup, stores-extend, stores-write}
-use Rattle.guarantees.proofs.Runs.{Runs-agree, Agrees, Part-agree, Parts-agree, agree-now, agree-after, agree-unseen}
+use Rattle.guarantees.proofs.Runs.{Runs-agree, Agrees, Parts-agree, agree-now, agree-after, agree-unseen}
 
 module _ {V : Type 0} (S : Sheet) (O : ℕ → Bool) (ok : Typed-sheet S) (ev ev′ : Evaluator V) (sd : Sound S ev) (sd′ : Sound S ev′) (ih : Agrees S O ev ev′) where
   -- what the function and the argument of application i gave

@@ -1,5 +1,5 @@
 -- The laws of one set within another, and of one type that fits another.
-use mathlib.Core.Path.{_≡_, sym, ap, subst, _∙_}
+use mathlib.Core.Path.{_≡_, sym, ap, subst}
 use mathlib.Core.Logic.{_⊎_, inl, inr}
 use Prim.Native.Nat.{ℕ, zero, suc}
 use Rattle.sheet.specs.declared.decoded.Form.the-variants as form

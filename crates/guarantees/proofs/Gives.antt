@@ -1,5 +1,5 @@
 -- What a sound evaluation gives: a value of the node's type, a well-typed store, and no change that the control set does not allow.
-use mathlib.Core.Path.{_≡_, refl, sym, ap, subst, _∙_}
+use mathlib.Core.Path.{_≡_, sym, ap, _∙_}
 use mathlib.Core.List.{List}
 use Prim.Native.Nat.{ℕ, _<_}
 use native.Mathlib.Omega.{arith}
@@ -15,7 +15,7 @@ use Rattle.guarantees.specs.Sheets.{Typed-sheet}
 use Rattle.guarantees.proofs.Outcomes.{Post, post-then}
 use Rattle.guarantees.proofs.Addresses.{some-inj}
 use Rattle.guarantees.proofs.Fitting.{upto-form}
-use Rattle.guarantees.proofs.Typed.{At-site, Has-type, Store-typed}
+use Rattle.guarantees.proofs.Typed.{Has-type, Store-typed}
 use Rattle.guarantees.proofs.Values.{typed-keeps, typed-fit}
 use Rattle.guarantees.proofs.Stores.{Extends, extends-trans, extends-within, extends-keeps}
 use Rattle.guarantees.proofs.Nodes.{Other, Node, Ready, node-of, ready-part, ready-later}

@@ -1,21 +1,17 @@
 -- A node with its kind and its rules, and what is ready for it and for its parts.
-use mathlib.Core.Path.{_≡_, refl, sym, subst, _∙_}
+use mathlib.Core.Path.{_≡_, sym, subst, _∙_}
 use mathlib.Core.List.{List}
-use mathlib.Core.Bool.{true, false, _&&_}
+use mathlib.Core.Bool.{false}
 use mathlib.Core.Logic.{_≢_}
-use Prim.Native.Nat.{ℕ, _<_, _+_}
+use Prim.Native.Nat.{ℕ, _<_}
 use native.Mathlib.Omega.{arith}
 use Rattle.std.proofs.shelf.Tests.{true≢false}
-use Rattle.std.proofs.shelf.Ways.{tells}
 use Rattle.sheet.specs.declared.decoded.Form.{Form}
 use Rattle.sheet.specs.declared.decoded.Form.the-variants as form
 use Rattle.sheet.specs.declared.decoded.Kind.{Kind}
-use Rattle.sheet.specs.declared.decoded.Kind.the-variants.{Literal, Variable, Lambda, Application, New, Channel, Read, Write, Choice, Operation, Unknown}
+use Rattle.sheet.specs.declared.decoded.Kind.the-variants.{Variable, Lambda, Channel}
 use Rattle.sheet.specs.Sheet.{Sheet, parts-of, part}
-use Rattle.shaping.specs.Sites.{is-number, lawful-site}
-use Rattle.shaping.specs.Nodes.{lawful-argument, lawful-node, is-lambda, in-body, bound-by, bound}
-use Rattle.shaping.specs.Meaning.{Nesting}
-use Rattle.shaping.proofs.Spans.{nesting}
+use Rattle.shaping.specs.Nodes.{is-lambda}
 use Rattle.evaluation.specs.Values.{Value, Environment, bind, Cell}
 use Rattle.typing.specs.Rules.{Typed, Controlled, argument-at}
 use Rattle.guarantees.specs.Sheets.{Typed-sheet, Inside, Channel as Is-channel}

@@ -1,7 +1,7 @@
 -- The promises hold of a well-typed sheet.
 use mathlib.Core.Path.{_≡_, refl, sym, ap, subst, _∙_}
 use mathlib.Core.List.{List}
-use mathlib.Core.Bool.{Bool, true, false}
+use mathlib.Core.Bool.{Bool}
 use mathlib.Core.Logic.{inl, inr}
 use Prim.Native.Nat.{ℕ, _<_}
 use native.Mathlib.Omega.{arith}
@@ -11,22 +11,21 @@ use Rattle.std.specs.Finite.{nth}
 use Rattle.std.specs.declared.option.Option.the-variants.{Some}
 use Rattle.number.specs.NumberKind.{NumberKind}
 use Rattle.sheet.specs.declared.decoded.Form.the-variants as form
-use Rattle.sheet.specs.Sets.{has}
 use Rattle.sheet.specs.Sheet.{Sheet}
 use Rattle.evaluation.specs.declared.ending.Stop.the-variants.{FuelSpent, PendingFull, BindingsFull, CellsFull, Stuck}
 use Rattle.evaluation.specs.declared.ending.Ending.the-variants as ending
 use Rattle.evaluation.specs.Values.{Value, number, closure, reference, empty, Cell, State, Outcome, done, stopped}
 use Rattle.evaluation.specs.Evaluation.{most-pending}
-use Rattle.evaluation.specs.Runs.{site-cells, opening, number-or, written, numbers-after, report, run, run-report}
-use Rattle.typing.specs.Rules.{Within, type-at, set-at, control-at}
+use Rattle.evaluation.specs.Runs.{site-cells, opening, number-or, written, numbers-after, report, run}
+use Rattle.typing.specs.Rules.{type-at, control-at}
 use Rattle.guarantees.specs.Sheets.{Typed-sheet, Channel, Visible, content-set}
-use Rattle.guarantees.specs.Promises.{Ends-soundly, flowing-to, Channels-agree, Soundness, Confinement, Alike, Two-runs}
+use Rattle.guarantees.specs.Promises.{Ends-soundly, flowing-to, Soundness, Confinement, Two-runs}
 use Rattle.guarantees.proofs.Outcomes.{Post, Both, post-done, both-done}
 use Rattle.guarantees.proofs.Addresses.{some-inj}
 use Rattle.guarantees.proofs.Typed.{Has-type, Store-typed}
 use Rattle.guarantees.proofs.Stores.{Unchanged, After, extends-at}
 use Rattle.guarantees.proofs.Nodes.{number-function, number-reference, Ready}
-use Rattle.guarantees.proofs.Gives.{Gives, Gives-own, closure-form}
+use Rattle.guarantees.proofs.Gives.{Gives-own, closure-form}
 use Rattle.guarantees.proofs.Soundness.{sound}
 use Rattle.guarantees.proofs.Visible.{visible-within, not-visible}
 use Rattle.guarantees.proofs.Agreement.{Pairs, Same-value, Cells-agree, Stores-agree}

@@ -1,5 +1,4 @@
 -- Two runs of one node that agree where an observer sees: what that is, and how the parts' agreement is put together.
-use mathlib.Core.Path.{_≡_}
 use mathlib.Core.List.{List}
 use mathlib.Core.Bool.{Bool}
 use Prim.Native.Nat.{ℕ, _<_}
@@ -9,7 +8,7 @@ use Rattle.sheet.specs.Sheet.{Sheet, parts-of, part}
 use Rattle.evaluation.specs.Values.{Value, Environment, Cell, State, Outcome, Evaluator, and-then}
 use Rattle.typing.specs.Rules.{Within, Fit, type-at, set-at, control-at}
 use Rattle.guarantees.specs.Sheets.{Typed-sheet, Visible}
-use Rattle.guarantees.proofs.Outcomes.{Post, Both, both-then, both-map, both-of, both-with}
+use Rattle.guarantees.proofs.Outcomes.{Post, Both, both-then, both-of, both-with}
 use Rattle.guarantees.proofs.Stores.{extends-within}
 use Rattle.guarantees.proofs.Nodes.{Other, Node, Ready, ready-part}
 use Rattle.guarantees.proofs.Gives.{Gives, Gives-own, Sound, gives-within, gives-later, gives-then, gives-ready}

@@ -1,19 +1,18 @@
 -- What stays the same to an observer: with more pairs, after what it does not see, after the same write, after a fresh cell.
-use mathlib.Core.Path.{_≡_, refl, sym, ap, subst, subst₂, _∙_}
+use mathlib.Core.Path.{_≡_, sym, ap, subst, subst₂, _∙_}
 use mathlib.Core.List.{List, [], _∷_, _++_}
-use mathlib.Core.Bool.{Bool, true, false, cond}
-use mathlib.Core.Logic.{_⊎_, inl, inr, _≢_}
+use mathlib.Core.Bool.{Bool}
+use mathlib.Core.Logic.{inl, inr, _≢_}
 use Prim.Native.Nat.{ℕ, _<_}
 use native.Mathlib.Omega.{arith}
 use lib.Dec.{eqb}
 use lib.ListN.{length, set}
 use Rattle.std.specs.Finite.{nth}
-use Rattle.std.specs.declared.option.Option.{Option}
-use Rattle.std.specs.declared.option.Option.the-variants.{None, Some}
+use Rattle.std.specs.declared.option.Option.the-variants.{Some}
 use Rattle.std.proofs.shelf.Tests.{cases-eq, cases-bool, cond-true, cond-false, eqb-true}
 use Rattle.sheet.specs.Sheet.{Sheet}
 use Rattle.evaluation.specs.Values.{Value, number, closure, reference, Environment, empty, bind, Cell, lookup}
-use Rattle.typing.specs.Rules.{Within, argument-at}
+use Rattle.typing.specs.Rules.{argument-at}
 use Rattle.guarantees.specs.Sheets.{Visible, content-set}
 use Rattle.guarantees.proofs.Addresses.{some-inj, none-some, nth-set-same, nth-set-other, nth-old, nth-new, nth-below}
 use Rattle.guarantees.proofs.Stores.{Unchanged, After, Extends, extends-at}

@@ -3,7 +3,6 @@ use mathlib.Core.Path.{_≡_, refl, sym, subst, _∙_}
 use mathlib.Core.List.{List}
 use mathlib.Core.Logic.{inl}
 use Prim.Native.Nat.{ℕ}
-use native.Mathlib.Omega.{arith}
 use lib.Dec.{ltb}
 use lib.ListN.{set}
 use Rattle.std.specs.Finite.{nth}
@@ -20,9 +19,9 @@ use Rattle.guarantees.specs.Sheets.{Typed-sheet, content-set}
 use Rattle.guarantees.proofs.Outcomes.{Post, post-map, post-provided}
 use Rattle.guarantees.proofs.Addresses.{none-some}
 use Rattle.guarantees.proofs.Fitting.{within-trans, upto-argument, upto-result, upto-effect}
-use Rattle.guarantees.proofs.Typed.{Has-type, Env-typed, Store-typed}
+use Rattle.guarantees.proofs.Typed.{Has-type}
 use Rattle.guarantees.proofs.Values.{typed-keeps, typed-fit, lookup-typed}
-use Rattle.guarantees.proofs.Stores.{Extends, extends-refl, extends-trans, extends-write, keeps-write, store-write}
+use Rattle.guarantees.proofs.Stores.{extends-refl, extends-trans, extends-write, keeps-write, store-write}
 use Rattle.guarantees.proofs.Nodes.{number-function, number-reference, function-reference, Node, node-of, variable-of, channel-of, Ready, ready-body}
 use Rattle.guarantees.proofs.Gives.{Gives, Gives-own, Sound, gives-within, gives-after, sited, closure-form}
 

@@ -1,14 +1,13 @@
 -- Where nodes stand: a variable in its function, and a part of a node in no function but those that the node stands in.
 use mathlib.Core.Path.{_≡_, refl, sym, ap, subst, _∙_}
-use mathlib.Core.Bool.{Bool, true, false, cond, _&&_}
-use mathlib.Core.Logic.{_⊎_, inl, inr, ⊎-elim, _≢_}
+use mathlib.Core.Bool.{true, _&&_}
+use mathlib.Core.Logic.{inl, inr, _≢_}
 use Prim.Native.Nat.{ℕ, zero, suc, _+_, _-_, _<_, _≤_}
 use native.Mathlib.Omega.{arith}
 use lib.Dec.{ltb, leb}
 use Rattle.std.specs.declared.option.Option.{Option}
 use Rattle.std.specs.declared.option.Option.the-variants.{None, Some}
 use Rattle.std.proofs.shelf.Tests.{true≢false, cases-lt, cases-bool, cond-true, cond-false, and-parts, ltb-true, leb-true}
-use Rattle.std.proofs.shelf.Ways.{tells}
 use Rattle.sheet.specs.Sheet.{Sheet, parts-of, part, part-before, In-span}
 use Rattle.shaping.specs.Nodes.{parts-begin, sized, lawful-node}
 use Rattle.shaping.specs.Meaning.{Each, Nesting}
