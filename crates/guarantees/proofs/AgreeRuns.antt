@@ -7,6 +7,7 @@ use Prim.Native.Nat.{ℕ, zero, suc, _+_, _<_}
 use native.Mathlib.Omega.{arith}
 use lib.Dec.{eqb, ltb}
 use lib.ListN.{length}
+use Rattle.std.proofs.shelf.Tests.{cond-both}
 use Rattle.number.specs.NumberKind.{NumberKind}
 use Rattle.sheet.specs.declared.decoded.Kind.{Kind}
 use Rattle.sheet.specs.declared.decoded.Kind.the-variants.{Literal, Variable, Lambda, Application, New, Channel, Read, Write, Choice, Operation, Unknown}
@@ -25,11 +26,6 @@ use Rattle.guarantees.proofs.Agreement.{Pairs, More}
 use Rattle.guarantees.proofs.Same.{wider, stores-new}
 use Rattle.guarantees.proofs.Runs.{Runs-agree, Agrees, Starts, Part-agree, Parts-agree, agree-now, agree-after, agree-unseen, starts-part, starts-later, agree-part, agree-two}
 use Rattle.guarantees.proofs.Agree.{agree-apply, agree-store, agree-load, agree-variable}
-
--- what holds of both holds of the one that is taken
-either : (b : Bool) (P : ℕ → Type 0) (p q : ℕ) → P p → P q → P (cond b p q)
-either true P p q h k = h
-either false P p q h k = k
 
 module _ (M : NumberKind) (S : Sheet) (O : ℕ → Bool) (ok : Typed-sheet S) (ev ev′ : Evaluator (M .Value)) (sd : Sound S ev) (sd′ : Sound S ev′) (ih : Agrees S O ev ev′) where
   abbrev V : Type 0
@@ -63,10 +59,10 @@ module _ (M : NumberKind) (S : Sheet) (O : ℕ → Bool) (ok : Typed-sheet S) (e
       let A : ℕ = set-at S (part S i 2) in
       let p : ℕ = taken i x in
       let p′ : ℕ = taken i x′ in
-      let under = λ (y : Bool). either y (λ z. Within A (control-at S z)) (part S i 0) (part S i 1) (nd .control .2 .1) (nd .control .1 .1) in
+      let under = λ (y : Bool). cond-both y (part S i 0) (part S i 1) (λ z. Within A (control-at S z)) (λ _. nd .control .2 .1) (λ _. nd .control .1 .1) in
       agree-unseen S O i p p′ A β γ (s .cells) (s′ .cells) (ev p ρ s) (ev′ p′ ρ′ s′) n (under x) (under x′) (nd .typing .3) m (b .0 .agree)
-      (sd p ρ s (either x (λ z. Ready S z ρ (s .cells)) (part S i 0) (part S i 1) (b .0 .left) (b .1 .left)))
-      (sd′ p′ ρ′ s′ (either x′ (λ z. Ready S z ρ′ (s′ .cells)) (part S i 0) (part S i 1) (b .0 .right) (b .1 .right)))
+      (sd p ρ s (cond-both x (part S i 0) (part S i 1) (λ z. Ready S z ρ (s .cells)) (λ _. b .0 .left) (λ _. b .1 .left)))
+      (sd′ p′ ρ′ s′ (cond-both x′ (part S i 0) (part S i 1) (λ z. Ready S z ρ′ (s′ .cells)) (λ _. b .0 .right) (λ _. b .1 .right)))
 
   -- a choice
   agree-choose : (i : ℕ) (ρ ρ′ : Environment V) (c c′ : Value V) (s s′ : State V) (β : Pairs) → Node S Choice i →

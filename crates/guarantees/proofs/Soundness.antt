@@ -6,6 +6,7 @@ use Prim.Native.Nat.{ℕ, zero, suc, _+_}
 use native.Mathlib.Omega.{arith}
 use lib.Dec.{eqb, ltb}
 use lib.ListN.{length}
+use Rattle.std.proofs.shelf.Tests.{cond-both}
 use Rattle.number.specs.NumberKind.{NumberKind}
 use Rattle.sheet.specs.declared.decoded.Kind.{Kind}
 use Rattle.sheet.specs.declared.decoded.Kind.the-variants.{Literal, Variable, Lambda, Application, New, Channel, Read, Write, Choice, Operation, Unknown}
@@ -60,19 +61,13 @@ module _ (M : NumberKind) (S : Sheet) (ok : Typed-sheet S) (ev : Evaluator (M .V
       post-map (Gives-own S p (s .cells)) (Gives-own S i cs) (ev p ρ s) (ih p ρ s r)
       (λ w t g. gives-after S (control-at S i) p i cs (s .cells) w t f e (gives-within S (control-at S i) (control-at S p) p (s .cells) w t u g))
 
-  -- the branch that is taken
-  sound-pick : (b : Bool) (i p q : ℕ) (ρ : Environment V) (cs : List (Cell V)) (s : State V) → Post (Gives-own S i cs) (ev p ρ s) →
-      Post (Gives-own S i cs) (ev q ρ s) → Post (Gives-own S i cs) (ev (cond b p q) ρ s)
-  sound-pick true i p q ρ cs s h k = h
-  sound-pick false i p q ρ cs s h k = k
-
   -- a choice
   sound-choose : (i : ℕ) (ρ : Environment V) (cs : List (Cell V)) (c : Value V) (s : State V) → Node S Choice i → Ready S i ρ (s .cells) →
       Gives S (control-at S i) (part S i 2) cs c s → Post (Gives-own S i cs) (choose M S ev i ρ c s)
   sound-choose i ρ cs (number n) s nd r g =
-      sound-pick (M .is-zero n) i (part S i 0) (part S i 1) ρ cs s
-      (sound-branch i (part S i 0) ρ cs s (nd .typing .2) (nd .control .2 .0) (ready-part S ok Choice i 0 ρ (s .cells) nd refl (omega arith) r) (g .extends))
-      (sound-branch i (part S i 1) ρ cs s (nd .typing .1) (nd .control .1 .0) (ready-part S ok Choice i 1 ρ (s .cells) nd refl (omega arith) r) (g .extends))
+      cond-both (M .is-zero n) (part S i 0) (part S i 1) (λ p. Post (Gives-own S i cs) (ev p ρ s))
+      (λ _. sound-branch i (part S i 0) ρ cs s (nd .typing .2) (nd .control .2 .0) (ready-part S ok Choice i 0 ρ (s .cells) nd refl (omega arith) r) (g .extends))
+      (λ _. sound-branch i (part S i 1) ρ cs s (nd .typing .1) (nd .control .1 .0) (ready-part S ok Choice i 1 ρ (s .cells) nd refl (omega arith) r) (g .extends))
   sound-choose i ρ cs (closure f ρ′) s nd r g = number-function (nd .typing .0) (closure-form S ok (type-at S (part S i 2)) f ρ′ (s .cells) (g .typed))
   sound-choose i ρ cs (reference a) s nd r g = number-reference (nd .typing .0) (g .typed .0)
 
