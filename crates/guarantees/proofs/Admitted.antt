@@ -10,6 +10,7 @@ use Rattle.admission.specs.Meaning.{Is-admitted, Admissible}
 use Rattle.admission.proofs.Keeps.{keeps}
 use Rattle.guarantees.specs.Sheets.{Typed-sheet}
 
+-- by what shaping says of its nodes, and what admission says of it
 pub admitted-typed : (n : ℕ) (flows : ℕ → ℕ → Bool) (rs : List Row) → Is-shaped rs → Is-admitted n flows (view rs) → Typed-sheet (view rs)
 admitted-typed n flows rs h a =
     let A : Admissible n flows (view rs) = keeps n flows rs h a in

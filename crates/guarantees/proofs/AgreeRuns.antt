@@ -28,6 +28,7 @@ use Rattle.guarantees.proofs.Runs.{Runs-agree, Agrees, Starts, Part-agree, Par
 use Rattle.guarantees.proofs.Agree.{agree-apply, agree-store, agree-load, agree-variable}
 
 module _ (M : NumberKind) (S : Sheet) (O : ℕ → Bool) (ok : Typed-sheet S) (ev ev′ : Evaluator (M .Value)) (sd : Sound S ev) (sd′ : Sound S ev′) (ih : Agrees S O ev ev′) where
+  -- the values of numbers
   abbrev V : Type 0
   V = M .Value
 

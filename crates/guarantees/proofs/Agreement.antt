@@ -15,6 +15,7 @@ use Rattle.guarantees.specs.Sheets.{Channel, Visible, content-set}
 abbrev pub Pairs : Type 0
 Pairs = List (ℕ × ℕ)
 
+-- the addresses a and b are paired
 abbrev pub Paired : Pairs → ℕ → ℕ → Type 0
 Paired [] a b = ⊥
 Paired (p ∷ β) a b = ((p .0 ≡ a) × (p .1 ≡ b)) ⊎ Paired β a b

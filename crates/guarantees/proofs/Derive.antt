@@ -31,19 +31,22 @@ module _ (S : Sheet) where
   by-rule Operation i e t c d = operation i e (t .2) (t .0) (t .1) (d 1 (omega arith)) (c .0) (d 0 (omega arith)) (c .1) (t .3) (t .4)
   by-rule Unknown i e t c d = absurd t
 
-  -- one part, two, three
+  -- no part
   no-parts : (i : ℕ) → Parts-derived 0 i
   no-parts i q l = absurd (omega arith)
 
+  -- one part
   one-part : (i : ℕ) → Derivation S (part S i 0) → Parts-derived 1 i
   one-part i a zero l = a
   one-part i a (suc q) l = absurd (omega arith)
 
+  -- two parts
   two-parts : (i : ℕ) → Derivation S (part S i 0) → Derivation S (part S i 1) → Parts-derived 2 i
   two-parts i a b zero l = a
   two-parts i a b (suc zero) l = b
   two-parts i a b (suc (suc q)) l = absurd (omega arith)
 
+  -- three parts
   three-parts : (i : ℕ) → Derivation S (part S i 0) → Derivation S (part S i 1) → Derivation S (part S i 2) → Parts-derived 3 i
   three-parts i a b c zero l = a
   three-parts i a b c (suc zero) l = b
@@ -84,6 +87,7 @@ module _ (S : Sheet) (N : Nesting S) where
       by-rule S (S .node i .kind) i refl (k i l .0) (k i l .1)
       (λ q h. let p = N .parts i q l h .0 in derive-below k n (part S i q) (omega arith) (omega arith))
 
+  -- each node of a sheet that keeps the rules has a derivation
   pub derive : Keeps-rules S → (i : ℕ) → i < S .nodes → Derivation S i
   derive k i l = derive-below k (suc i) i (omega arith) l
 

@@ -19,13 +19,15 @@ use Rattle.guarantees.proofs.Spans.{part-out}
 use Rattle.guarantees.proofs.Typed.{Covers, Has-type, Env-typed, Store-typed}
 use Rattle.guarantees.proofs.Values.{Keeps-sites, env-keeps, covers-part, covers-body}
 
--- no form is two
+-- no form is two: a number's is no function's
 pub number-function : {X : Type 0} {f : Form} → f ≡ form.Number → f ≡ form.Function → X
 number-function e d = let z : _≡_ {A = ℕ} 0 1 = cc in absurd (omega arith)
 
+-- a number's is no reference's
 pub number-reference : {X : Type 0} {f : Form} → f ≡ form.Number → f ≡ form.Reference → X
 number-reference e d = let z : _≡_ {A = ℕ} 0 1 = cc in absurd (omega arith)
 
+-- a function's is no reference's
 pub function-reference : {X : Type 0} {f : Form} → f ≡ form.Function → f ≡ form.Reference → X
 function-reference e d = let z : _≡_ {A = ℕ} 0 1 = cc in absurd (omega arith)
 

@@ -37,6 +37,7 @@ module _ {V : Type 0} where
       let z : suc k + a ≡ k + suc a = omega arith in
       place-from (suc k) ns a n e ∙ ap (λ (x : ℕ). Some (place x n)) z
 
+  -- so from the first site on
   pub place-of : (ns : List V) (a : ℕ) (n : V) → nth ns a ≡ Some n → nth (site-cells 0 ns) a ≡ Some (place a n)
   place-of ns a n e = let z : 0 + a ≡ a = omega arith in place-from 0 ns a n e ∙ ap (λ (x : ℕ). Some (place x n)) z
 

@@ -14,10 +14,11 @@ Not-stuck BindingsFull = Unit {0}
 Not-stuck CellsFull = Unit {0}
 Not-stuck (Stuck i) = ⊥
 
--- what may hold of a done outcome, and of two
+-- what may hold of a done outcome
 abbrev pub One : Type 0 → Type 1
 One V = Value V → State V → Type 0
 
+-- what may hold of two done outcomes
 abbrev pub Two : Type 0 → Type 1
 Two V = Value V → State V → Value V → State V → Type 0
 
@@ -96,9 +97,10 @@ module _ {V : Type 0} where
   both-unless Q false true e t e′ t′ o o′ h = both-stop Q o e′ t′
   both-unless Q false false e t e′ t′ o o′ h = h
 
-  -- an outcome that is known to be done, and two that are
+  -- an outcome that is known to be done
   pub post-done : (Q : One V) (o : Outcome V) (v : Value V) (s : State V) → Post Q o → o ≡ done v s → Q v s
   post-done Q o v s h e = subst (Post Q) e h
 
+  -- two outcomes that are known to be done
   pub both-done : (Q : Two V) (o o′ : Outcome V) (v v′ : Value V) (s s′ : State V) → Both Q o o′ → o ≡ done v s → o′ ≡ done v′ s′ → Q v s v′ s′
   both-done Q o o′ v v′ s s′ h e e′ = subst (λ (x : Outcome V). Both Q (done v s) x) e′ (subst (λ (x : Outcome V). Both Q x o′) e h)

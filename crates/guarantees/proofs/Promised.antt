@@ -34,9 +34,11 @@ use Rattle.guarantees.proofs.AgreeRuns.{agree}
 use Rattle.guarantees.proofs.Opening.{nth-there, place, place-of, opening-typed, read-back, diagonal, opening-agrees}
 
 module _ (M : NumberKind) (S : Sheet) (ok : Typed-sheet S) where
+  -- the values of numbers
   abbrev V : Type 0
   V = M .Value
 
+  -- the root of an entry
   abbrev root : ℕ → ℕ
   root e = S .entry e .root
 
@@ -65,6 +67,7 @@ module _ (M : NumberKind) (S : Sheet) (ok : Typed-sheet S) where
   ends z e cs (stopped CellsFull t) l g = record { not-stuck = omega arith; a-number = omega arith }
   ends z e cs (stopped (Stuck i) t) l g = absurd g
 
+  -- no run is stuck, and what is done is a number
   pub soundness : Soundness M S
   soundness fuel e ns l h = ends (M .whole (pos 0)) e (site-cells 0 ns) (run M S fuel e ns) l (run-sound fuel e ns l h)
 
@@ -87,6 +90,7 @@ module _ (M : NumberKind) (S : Sheet) (ok : Typed-sheet S) where
   confined O e ns (done (reference a) t) h u g s c v = refl
   confined O e ns (stopped x t) h u g s c v = refl
 
+  -- a run under a label that may not flow to b changes nothing that b may see
   pub confinement : (flows : ℕ → ℕ → Bool) → Confinement M flows S
   confinement flows b k fuel e ns l h t f =
       confined (flowing-to flows b) e ns (run M S fuel e ns) h (not-visible (flowing-to flows b) (control-at S (root e)) k t f) (run-sound fuel e ns l h)
@@ -130,6 +134,7 @@ module _ (M : NumberKind) (S : Sheet) (ok : Typed-sheet S) where
       agree M S O ok fuel fuel′ most-pending (root e) empty empty (opening ns) (opening ns′) (diagonal S (S .sites)) (ready-root e ns l h)
       (ready-root e ns′ l h′) tt (opening-agrees S O ns ns′ h h′ k)
 
+  -- two runs are alike to b
   pub two-runs : (flows : ℕ → ℕ → Bool) → Two-runs M flows S
   two-runs flows b fuel fuel′ e ns ns′ l h h′ k t t′ =
       let O : ℕ → Bool = flowing-to flows b in

@@ -81,8 +81,8 @@ module _ {V : Type 0} (S : Sheet) (O : ℕ → Bool) (β : Pairs) where
         at-left = l .at;
         at-right = l′ .at;
         sited = l .sited ∙ (w .sited ∙ sym (l′ .sited));
-        same = λ low. same-later m m′ (w .left) (w .right) (l .now) (l′ .now) n n′ (w .sited) (w .same) (l .unchanged) (l′ .unchanged)
-            (subst (λ (x : ℕ). Visible O (content-set S x)) (l .sited) low);
+        same = λ v. same-later m m′ (w .left) (w .right) (l .now) (l′ .now) n n′ (w .sited) (w .same) (l .unchanged) (l′ .unchanged)
+            (subst (λ (x : ℕ). Visible O (content-set S x)) (l .sited) v);
       }
 
   -- stores agree still where both extend under control sets that the observer does not see
@@ -170,6 +170,7 @@ module _ {V : Type 0} (S : Sheet) (O : ℕ → Bool) (β : Pairs) (cs cs′ : Li
       absurd (omega arith)
   wider-to a b b′ (inr p) (inr q) = A .to a b b′ p q
 
+  -- nor from the other side
   wider-fro : (a a′ b : ℕ) → Paired wider a b → Paired wider a′ b → a ≡ a′
   wider-fro a a′ b (inl p) (inl q) = sym (p .0) ∙ q .0
   wider-fro a a′ b (inl p) (inr q) =

@@ -25,6 +25,7 @@ use Rattle.guarantees.proofs.Gives.{Gives, Gives-own, Sound, gives-within, giv
 use Rattle.guarantees.proofs.Sound.{sound-apply, sound-load, sound-store, sound-variable, sound-lambda, sound-channel}
 
 module _ (M : NumberKind) (S : Sheet) (ok : Typed-sheet S) (ev : Evaluator (M .Value)) (ih : Sound S ev) where
+  -- the values of numbers
   abbrev V : Type 0
   V = M .Value
 

@@ -33,6 +33,7 @@ module _ {V : Type 0} (S : Sheet) where
   unfoldable pub Extends : ℕ → List (Cell V) → List (Cell V) → Type 0
   Extends m cs cs′ = (a : ℕ) (c : Cell V) → nth cs a ≡ Some c → After m cs′ a c
 
+  -- what became of a cell in an extension
   pub extends-at : (m : ℕ) (cs cs′ : List (Cell V)) → Extends m cs cs′ → (a : ℕ) (c : Cell V) → nth cs a ≡ Some c → After m cs′ a c
   unfolding Extends
   extends-at m cs cs′ g a c e = g a c e
@@ -66,6 +67,7 @@ module _ {V : Type 0} (S : Sheet) where
   weaker m m′ c c₁ u (inl p) = inl p
   weaker m m′ c c₁ u (inr w) = inr (within-trans m m′ (content-set S (c .site)) u w)
 
+  -- and so does an extension
   pub extends-within : (m m′ : ℕ) (cs cs′ : List (Cell V)) → Within m m′ → Extends m′ cs cs′ → Extends m cs cs′
   unfolding Extends
   extends-within m m′ cs cs′ u g a c e =
@@ -99,9 +101,11 @@ module _ {V : Type 0} (S : Sheet) where
         | inr n ↦ record { now = x; at = nth-set-other cs b a d n ∙ e; sited = refl; unchanged = inl refl }
       ]
 
+  -- a fresh cell leaves each address its site
   pub keeps-append : (cs : List (Cell V)) (d : Cell V) → Keeps-sites cs (cs ++ d ∷ [])
   keeps-append cs d = extends-keeps 0 cs (cs ++ d ∷ []) (extends-append 0 cs d)
 
+  -- and so does a write
   pub keeps-write : (cs : List (Cell V)) (b : ℕ) (c d : Cell V) → nth cs b ≡ Some c → d .site ≡ c .site → Keeps-sites cs (set cs b d)
   keeps-write cs b c d q r =
       extends-keeps (content-set S (c .site)) cs (set cs b d) (extends-write (content-set S (c .site)) cs b c d q r (λ k t. t))
