@@ -62,3 +62,17 @@ module _ (M : NumberKind) where
       Channels-agree flows S b ns ns′ →
       run-report M S fuel e ns .ending ≡ Number → run-report M S fuel′ e ns′ .ending ≡ Number →
       Alike flows S b fuel fuel′ e ns ns′
+
+  -- what the relation means to party b: an entry whose label may not flow to b changes no channel of b's; and two runs of an entry of
+  -- b's own, from numbers that are the same in the channels that b may see, end in the same number if both end in one
+  pub record Unswayed (flows : ℕ → ℕ → Bool) (S : Sheet) (b : ℕ) : Type 0 where
+    pub channels : (fuel e s : ℕ) (ns : List (M .Value)) → e < S .entries → length ns ≡ S .sites → flows (S .entry e .label) b ≡ false →
+        Channel S s → S .site s .label ≡ b → nth (numbers-after (run M S fuel e ns) ns) s ≡ nth ns s
+    pub figures : (fuel fuel′ e : ℕ) (ns ns′ : List (M .Value)) → e < S .entries → length ns ≡ S .sites → length ns′ ≡ S .sites →
+        S .entry e .label ≡ b → Channels-agree flows S b ns ns′ →
+        run-report M S fuel e ns .ending ≡ Number → run-report M S fuel′ e ns′ .ending ≡ Number →
+        run-report M S fuel e ns .number ≡ run-report M S fuel′ e ns′ .number
+
+  -- of every party
+  abbrev pub Parties : (ℕ → ℕ → Bool) → Sheet → Type 0
+  Parties flows S = (b : ℕ) → Unswayed flows S b

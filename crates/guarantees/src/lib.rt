@@ -1,6 +1,6 @@
 //! What the rules promise of the runs of an admitted sheet: theorems, each on a function's contract.
 //! They hold for every kind of numbers and every relation between labels, transitive or not.
-ghost use Rattle.guarantees.specs.Promises.{Of-admitted, Soundness, Confinement, Two-runs};
+ghost use Rattle.guarantees.specs.Promises.{Of-admitted, Soundness, Confinement, Two-runs, Parties};
 ghost use Rattle.guarantees.specs.Derivations.{Entries-derived, Derived-passes};
 use number::Number;
 
@@ -22,6 +22,14 @@ pub fn runs_are_confined<K: Number>() -> u8
 /// and give the same number if b may see it.
 pub fn runs_agree<K: Number>() -> u8
     ensures { λ _. ⌜ Of-admitted (Two-runs (K·Number .kind)) ⌝ }
+{
+    0
+}
+
+/// An entry of a party that may not reach b changes no channel of b's, and b's own entries give the
+/// same number whatever b may not see.
+pub fn parties_are_unswayed<K: Number>() -> u8
+    ensures { λ _. ⌜ Of-admitted (Parties (K·Number .kind)) ⌝ }
 {
     0
 }
