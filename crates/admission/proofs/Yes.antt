@@ -10,7 +10,7 @@ use Rattle.sheet.specs.declared.section.Section.the-variants as section
 use Rattle.sheet.specs.Asked.{none, first-no, every, Verdict, told, asked, _then_, passed}
 use Rattle.sheet.specs.Sheet.{Sheet}
 use Rattle.sheet.proofs.Asking.{every-means, every-from}
-use Rattle.shaping.specs.Meaning.{Each}
+use Rattle.sheet.specs.Asked.{Each}
 use Rattle.typing.specs.Tests.{typed, controlled}
 use Rattle.admission.specs.declared.question.Question.{Question}
 use Rattle.admission.specs.declared.question.Question.the-variants.{Labels, SiteOwner, SiteFlow, EntryRoot, EntryFlow}

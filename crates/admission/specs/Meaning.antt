@@ -6,10 +6,10 @@ use Prim.Native.Nat.{ℕ, _<_, _≤_}
 use Rattle.sheet.specs.declared.row.Row.{Row}
 use Rattle.sheet.specs.declared.decoded.Form.the-variants as form
 use Rattle.sheet.specs.declared.decoded.Kind.the-variants as kind
-use Rattle.sheet.specs.Asked.{passed}
+use Rattle.sheet.specs.Asked.{passed, Each}
 use Rattle.sheet.specs.Sets.{has}
 use Rattle.sheet.specs.Sheet.{Sheet, view, In-span}
-use Rattle.shaping.specs.Meaning.{Is-shaped, Each, Nesting, Forest}
+use Rattle.shaping.specs.Meaning.{Is-shaped, Nesting, Forest}
 use Rattle.typing.specs.Tests.{typed, controlled}
 use Rattle.typing.specs.Rules.{Fit, form-at, set-at, control-at, Keeps-rules}
 use Rattle.admission.specs.Questions.{type-labels, site-label, node-labels, entry-label, site-owned, site-flows, entry-rooted, entry-flows}

@@ -10,7 +10,8 @@ use Rattle.std.specs.declared.option.Option.the-variants.{None, Some}
 use Rattle.std.proofs.shelf.Tests.{true≢false, cases-lt, cases-bool, cond-true, cond-false, and-parts, ltb-true, leb-true}
 use Rattle.sheet.specs.Sheet.{Sheet, parts-of, part, part-before, In-span}
 use Rattle.shaping.specs.Nodes.{parts-begin, sized, lawful-node}
-use Rattle.shaping.specs.Meaning.{Each, Nesting}
+use Rattle.sheet.specs.Asked.{Each}
+use Rattle.shaping.specs.Meaning.{Nesting}
 use Rattle.shaping.proofs.Spans.{within, nesting}
 use Rattle.guarantees.specs.Sheets.{Inside}
 use Rattle.guarantees.proofs.Addresses.{none-some}

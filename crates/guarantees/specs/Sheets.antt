@@ -6,7 +6,7 @@ use Rattle.sheet.specs.declared.decoded.Form.the-variants as form
 use Rattle.sheet.specs.Sets.{has}
 use Rattle.sheet.specs.Sheet.{Sheet, In-span}
 use Rattle.shaping.specs.Nodes.{lawful-node}
-use Rattle.shaping.specs.Meaning.{Each}
+use Rattle.sheet.specs.Asked.{Each}
 use Rattle.typing.specs.Rules.{form-at, Keeps-rules}
 use Rattle.admission.specs.Meaning.{Well-shaped}
 

@@ -1,21 +1,17 @@
 -- The verdict is yes exactly when each question holds of each row.
-use mathlib.Core.Path.{_≡_, refl, sym, ap, _∙_}
-use mathlib.Core.Bool.{Bool, true, false, cond, _&&_}
+use mathlib.Core.Path.{_≡_, refl, sym, _∙_}
+use mathlib.Core.Bool.{true}
 use mathlib.Core.List.{List}
-use Prim.Native.Nat.{ℕ, _-_, _<_, _≤_}
-use native.Mathlib.Omega.{arith}
+use Prim.Native.Nat.{ℕ, _-_}
 use lib.Dec.{leb}
 use lib.ListN.{length}
-use Rattle.std.specs.declared.option.Option.{Option}
-use Rattle.std.specs.declared.option.Option.the-variants.{None, Some}
-use Rattle.std.specs.declared.result.Result.the-variants.{Ok, Err}
-use Rattle.std.proofs.shelf.Ways.{tells}
-use Rattle.std.proofs.shelf.Tests.{true≢false, leb-true, le-leb, and-parts, and-from}
+use Rattle.std.proofs.shelf.Tests.{leb-true, le-leb, and-parts, and-from}
 use Rattle.sheet.specs.declared.row.Row.{Row}
 use Rattle.sheet.specs.declared.section.Section.the-variants as section
-use Rattle.sheet.specs.Asked.{none, first-no, every, Verdict, told, asked, once, _then_, passed}
-use Rattle.sheet.specs.Sheet.{Sheet, view, first-row, rows-in}
+use Rattle.sheet.specs.Asked.{every, Verdict, once, _then_}
+use Rattle.sheet.specs.Sheet.{Sheet, view}
 use Rattle.sheet.proofs.Asking.{every-means, every-from}
+use Rattle.sheet.proofs.Verdicts.{then-parts, then-from, once-is, each-of, each-from}
 use Rattle.shaping.specs.declared.question.Question.{Question}
 use Rattle.shaping.specs.declared.question.Question.the-variants.{Letters, Counts, Types, Sites, Nodes, Variables, Entries}
 use Rattle.shaping.specs.Letters.{in-order, from-one, within-limits}
@@ -23,38 +19,8 @@ use Rattle.shaping.specs.Types.{lawful-type}
 use Rattle.shaping.specs.Sites.{lawful-site}
 use Rattle.shaping.specs.Nodes.{lawful-node, bound}
 use Rattle.shaping.specs.Entries.{lawful-entry, covered}
-use Rattle.shaping.specs.Verdict.{over, letters-verdict, parts-verdict, shape-verdict}
-use Rattle.shaping.specs.Meaning.{Is-shaped, Each, From-one, Lawful, Shaped-exactly}
-
--- two verdicts in a row are yes exactly when both are
-then-parts : (v w : Verdict Question) → passed (v then w) ≡ true → (passed v ≡ true) × (passed w ≡ true)
-then-parts (Ok u) w h = (refl, h)
-then-parts (Err e) w h = absurd (true≢false (sym h))
-
-then-from : (v w : Verdict Question) → passed v ≡ true → passed w ≡ true → passed (v then w) ≡ true
-then-from (Ok u) w h k = k
-then-from (Err e) w h k = absurd (true≢false (sym h))
-
--- a question asked once is yes exactly when its test is
-once-is : (q : Question) (k : ℕ) (t : Bool) → passed (once q k t) ≡ t
-once-is q k true = refl
-once-is q k false = refl
-
--- a question asked of each is yes exactly when there is no no
-told-is : (q : Question) (b : ℕ) (o : Option ℕ) → passed (told q b o) ≡ none o
-told-is q b None = refl
-told-is q b (Some k) = refl
-
-asked-is : (q : Question) (b : ℕ) (p : ℕ → Bool) (n : ℕ) → passed (asked q b p n) ≡ every p n
-unfolding asked
-asked-is q b p n = told-is q b (first-no p 0 n)
-
--- and so when its test says yes of each
-each-of : (q : Question) (b : ℕ) (p : ℕ → Bool) (n : ℕ) → passed (asked q b p n) ≡ true → Each n p
-each-of q b p n h = every-means p n (sym (asked-is q b p n) ∙ h)
-
-each-from : (q : Question) (b : ℕ) (p : ℕ → Bool) (n : ℕ) → Each n p → passed (asked q b p n) ≡ true
-each-from q b p n h = asked-is q b p n ∙ every-from p n h
+use Rattle.shaping.specs.Verdict.{over, letters-verdict, parts-verdict}
+use Rattle.shaping.specs.Meaning.{Is-shaped, From-one, Lawful, Shaped-exactly}
 
 -- a count from 1 to the most
 count-means : (most n : ℕ) → from-one most n ≡ true → From-one most n

@@ -1,20 +1,18 @@
 -- The trees of the entries are disjoint and cover all nodes.
-use mathlib.Core.Path.{_≡_, refl, sym, ap, subst, _∙_}
-use mathlib.Core.Bool.{Bool, true, false, _&&_, _||_}
-use mathlib.Core.List.{List}
+use mathlib.Core.Path.{_≡_, ap}
+use mathlib.Core.Bool.{true}
 use mathlib.Core.Logic.{_⊎_, inl, inr, ⊎-elim}
-use Prim.Native.Nat.{ℕ, _+_, _-_, _<_, _≤_}
+use Prim.Native.Nat.{ℕ, _-_, _<_, _≤_}
 use native.Mathlib.Omega.{arith}
 use lib.Dec.{ltb}
 use Rattle.std.proofs.shelf.Ways.{tells}
 use Rattle.std.proofs.shelf.Tests.{cases-order, ltb-true, ltb-false, or-cases, or-parts}
-use Rattle.sheet.specs.declared.row.Row.{Row}
-use Rattle.sheet.specs.Asked.{every}
+use Rattle.sheet.specs.Asked.{every, Each}
 use Rattle.sheet.specs.Sheet.{Sheet, view, In-span}
 use Rattle.sheet.proofs.Asking.{every-means, some-no}
 use Rattle.shaping.specs.Nodes.{lawful-node}
 use Rattle.shaping.specs.Entries.{first-of, apart, apart-from-earlier, lawful-entry, outside, covered}
-use Rattle.shaping.specs.Meaning.{Is-shaped, Each, In-tree, Forest, Spans-nest, Trees-cover}
+use Rattle.shaping.specs.Meaning.{In-tree, Forest, Spans-nest, Trees-cover}
 use Rattle.shaping.proofs.Exactly.{lawful}
 use Rattle.shaping.proofs.Spans.{own, within, nesting}
 

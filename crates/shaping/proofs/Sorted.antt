@@ -1,18 +1,19 @@
 -- Rows in order: each section's rows stand together, after those of the sections before it.
 use mathlib.Core.Path.{_≡_, refl, sym, ap, subst, _∙_}
-use mathlib.Core.Bool.{Bool, true, false, cond, _&&_}
+use mathlib.Core.Bool.{true, cond}
 use mathlib.Core.List.{List, [], _∷_}
 use mathlib.Core.Logic.{_⊎_, ⊎-elim}
 use Prim.Native.Nat.{ℕ, zero, suc, _+_, _-_, _<_, _≤_}
 use native.Mathlib.Omega.{arith}
-use lib.Dec.{eqb, ltb, leb}
-use lib.ListN.{length, getD}
+use lib.Dec.{ltb, leb}
+use lib.ListN.{length}
 use Rattle.std.proofs.shelf.Ways.{tells}
 use Rattle.std.proofs.shelf.Tests.{and-parts, and-from, ltb-true, leb-true, lt-ltb, le-ltb, le-leb, cond-true, cond-false, cases-lt, cases-order}
 use Rattle.sheet.specs.declared.row.Row.{Row}
-use Rattle.sheet.specs.Sheet.{view, no-row, count}
+use Rattle.sheet.specs.Asked.{Each}
+use Rattle.sheet.specs.Sheet.{view, count}
 use Rattle.shaping.specs.Letters.{rank, in-order}
-use Rattle.shaping.specs.Meaning.{Is-shaped, Each, letter-at, Sections, Read-by-letter}
+use Rattle.shaping.specs.Meaning.{letter-at, Read-by-letter}
 use Rattle.shaping.proofs.Exactly.{lawful}
 
 -- the place of row k's letter

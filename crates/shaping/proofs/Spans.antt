@@ -1,17 +1,17 @@
 -- The parts of a node, and spans that nest.
 use mathlib.Core.Path.{_≡_, refl, sym, ap, subst, _∙_}
-use mathlib.Core.Bool.{Bool, true, false, cond, _&&_}
+use mathlib.Core.Bool.{true, false, _&&_}
 use mathlib.Core.Logic.{_⊎_, inl, inr, ⊎-elim}
 use Prim.Native.Nat.{ℕ, zero, suc, _+_, _-_, _<_, _≤_}
 use native.Mathlib.Omega.{arith}
-use lib.Dec.{eqb, ltb, leb}
+use lib.Dec.{ltb, leb}
 use Rattle.std.specs.declared.option.Option.{Option}
 use Rattle.std.specs.declared.option.Option.the-variants.{None, Some}
 use Rattle.std.proofs.shelf.Tests.{true≢false, cases-lt, cases-bool, cond-true, cond-false, and-parts, ltb-true, leb-true, eqb-true}
-use Rattle.std.proofs.shelf.Ways.{tells}
+use Rattle.sheet.specs.Asked.{Each}
 use Rattle.sheet.specs.Sheet.{Sheet, parts-of, part, part-before, In-span}
 use Rattle.shaping.specs.Nodes.{parts-begin, sized, lawful-node}
-use Rattle.shaping.specs.Meaning.{Each, Span-within, Spans-apart, Nesting}
+use Rattle.shaping.specs.Meaning.{Span-within, Spans-apart, Nesting}
 
 -- parts of the right size begin somewhere
 sized-means : (i s : ℕ) (o : Option ℕ) → sized i s o ≡ true → (b : ℕ) × (o ≡ Some b) × (s ≡ i - b + 1)

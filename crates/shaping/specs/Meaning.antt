@@ -1,12 +1,12 @@
 -- What a shaped sheet is, said of all its rows, and what follows for its trees.
 use mathlib.Core.Path.{_≡_}
-use mathlib.Core.Bool.{Bool, true}
+use mathlib.Core.Bool.{true}
 use mathlib.Core.List.{List}
 use mathlib.Core.Logic.{_⊎_}
 use Prim.Native.Nat.{ℕ, _+_, _<_, _≤_}
 use lib.ListN.{getD, length}
 use Rattle.sheet.specs.declared.row.Row.{Row}
-use Rattle.sheet.specs.Asked.{passed}
+use Rattle.sheet.specs.Asked.{Each, passed}
 use Rattle.sheet.specs.declared.section.Section.the-variants as section
 use Rattle.sheet.specs.Sheet.{Sheet, view, no-row, first-row, parts-of, part, In-span}
 use Rattle.shaping.specs.Letters.{in-order}
@@ -19,10 +19,6 @@ use Rattle.shaping.specs.Verdict.{shape-verdict}
 -- the rows pass every question of shaping
 abbrev pub Is-shaped : List Row → Type 0
 Is-shaped rs = passed (shape-verdict rs) ≡ true
-
--- the test says yes of each of the first n
-abbrev pub Each : ℕ → (ℕ → Bool) → Type 0
-Each n p = (k : ℕ) → k < n → p k ≡ true
 
 -- from 1 to the most
 abbrev pub From-one : ℕ → ℕ → Type 0

@@ -1,3 +1,4 @@
 pub mod Asking
 pub mod Counted
 pub mod Sections
+pub mod Verdicts

@@ -1,6 +1,7 @@
 -- A question is a test on the numbers of some things. Asked of each in rising order, its answer is the first no.
+use mathlib.Core.Path.{_≡_}
 use mathlib.Core.Bool.{Bool, true, false, cond}
-use Prim.Native.Nat.{ℕ, zero, suc, _+_}
+use Prim.Native.Nat.{ℕ, zero, suc, _+_, _<_}
 use Rattle.std.specs.declared.option.Option.{Option}
 use Rattle.std.specs.declared.option.Option.the-variants.{None, Some}
 use Rattle.std.specs.declared.result.Result.{Result}
@@ -20,6 +21,10 @@ none (Some k) = false
 -- yes for each of the first n numbers
 abbrev pub every : (ℕ → Bool) → ℕ → Bool
 every p n = none (first-no p 0 n)
+
+-- the same as a fact: the test says yes of each of the first n numbers
+abbrev pub Each : ℕ → (ℕ → Bool) → Type 0
+Each n p = (k : ℕ) → k < n → p k ≡ true
 
 -- yes, or the question that is refused with the row that it names; Q is the kind of questions
 abbrev pub Verdict : Type 0 → Type 0

@@ -1,5 +1,5 @@
 -- The sheet that the rows say. Everything else is stated of this record: the rules, evaluation, the theorems.
-use mathlib.Core.Bool.{Bool, true, false, cond}
+use mathlib.Core.Bool.{cond}
 use mathlib.Core.List.{List, [], _∷_}
 use Prim.Native.Nat.{ℕ, zero, suc, _+_, _-_, _<_, _≤_}
 use lib.Dec.{eqb, ltb}

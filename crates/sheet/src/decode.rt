@@ -1,7 +1,6 @@
 // The sheet read off the rows, a row at a time.
 ghost use mathlib.Core.Path.{_≡_};
-ghost use mathlib.Core.Bool.{Bool, cond};
-ghost use Prim.Native.Nat.{ℕ, _+_, _≤_};
+ghost use Prim.Native.Nat.{_+_, _≤_};
 ghost use lib.ListN.{length};
 ghost use Rattle.sheet.specs.Sheet.{natural, form-of, kind-of, type-of, site-of, node-of, entry-of, row-at, count, view, parts-of, part-before};
 use super::decoded::EntryRow;

@@ -1,4 +1,5 @@
 ghost use mathlib.Core.Path.{_≡_};
+ghost use mathlib.Core.Bool.{_&&_};
 ghost use Rattle.sheet_text.specs.Rows.{blank as no-fields, taken, row-in};
 use super::field::letter_of;
 use super::field::number_of;
@@ -17,6 +18,13 @@ pub(crate) struct Line {
     values: [i64; 5],
 }
 
+// Whether both hold.
+fn both(a: bool, b: bool) -> bool
+    ensures { λ r. ⌜ r ≡ (a && b) ⌝ }
+{
+    a && b
+}
+
 impl Line {
     // No field yet.
     pub(crate) fn blank() -> Line
@@ -30,29 +38,21 @@ impl Line {
         }
     }
 
-    // With one field more.
-    pub(crate) fn with(self, field: &[u8]) -> Line
-        ensures { λ r. ⌜ r ≡ taken self (now (field .entry)) ⌝ }
+    // Takes one field more.
+    pub(crate) fn take(&mut self, field: &[u8])
+        ensures { λ _. ⌜ now (self .exit) ≡ taken (now (self .entry)) (now (field .entry)) ⌝ }
     {
         let fields = self.fields;
         if fields == 0 {
-            return Line {
-                fields: 1,
-                letter: letter_of(field),
-                numeric: self.numeric,
-                values: self.values,
-            };
+            self.letter = letter_of(field);
+            self.fields = 1;
+            return;
         }
         let number = number_of(field);
-        let mut values = self.values;
+        self.numeric = both(self.numeric, number.is_some());
+        self.fields = fields.min(6) + 1;
         if fields <= 5 {
-            values[fields - 1] = number.unwrap_or(0);
-        }
-        Line {
-            fields: fields.min(6) + 1,
-            letter: self.letter,
-            numeric: self.numeric && number.is_some(),
-            values,
+            self.values[fields - 1] = number.unwrap_or(0);
         }
     }
 

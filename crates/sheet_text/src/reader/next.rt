@@ -35,7 +35,7 @@ fn read_fields(input: &[u8], start: usize) -> Option<(Line, usize)>
         match next_field(&input[at..], at) {
             None => return None,
             Some(step) => {
-                line = line.with(bytes_of(step.field));
+                line.take(bytes_of(step.field));
                 at += step.size;
                 if let Mark::RowEnd = step.mark {
                     return Some((line, at));

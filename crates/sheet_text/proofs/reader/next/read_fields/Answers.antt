@@ -28,7 +28,7 @@ returns-in-RowEnd c =
     let inv = c .loop-step .inv in
     let f = raw (step .field) in
     let r = step-read xs at step s ∙ ap (λ m. continued f m (symbols (drop (at + step .size) xs))) (c .in-RowEnd .is) in
-    let with-one = c .with-line .ensures ∙ ap (taken line) (c .bytes-of .ensures) in (
+    let with-one = c .take .ensures ∙ ap (taken line) (c .bytes-of .ensures) in (
       step-past xs at step s (c .args .start) (inv .0) (inv .2),
       step-within xs at step s (inv .1),
       sym (inv .3) ∙ ap (next-after line) r ∙ ap Fields (sym with-one),
@@ -46,7 +46,7 @@ loop-step-again c =
     let f = raw (step .field) in
     let more = field (symbols (drop (at + step .size) xs)) in
     let r = step-read xs at step s ∙ ap (λ m. continued f m (symbols (drop (at + step .size) xs))) (c .in-rest .is) in
-    let with-one = c .with-line .ensures ∙ ap (taken line) (c .bytes-of .ensures) in
+    let with-one = c .take .ensures ∙ ap (taken line) (c .bytes-of .ensures) in
     let past : c .args .start < at + step .size = step-past xs at step s (c .args .start) (inv .0) (inv .2) in (
       omega arith,
       step-within xs at step s (inv .1),
