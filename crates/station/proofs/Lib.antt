@@ -1,0 +1,4 @@
+pub mod Areas
+pub mod Alone
+pub mod Like
+pub mod Told
