@@ -1,1 +1,4 @@
+pub mod Fitting
+pub mod Tests
 pub mod Rules
+pub mod Meaning

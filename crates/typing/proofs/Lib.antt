@@ -1,0 +1,4 @@
+pub mod Levels
+pub mod Sets
+pub mod Exactly
+pub mod Nodes
