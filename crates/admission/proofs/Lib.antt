@@ -1,1 +1,5 @@
 pub mod Told
+pub mod Yes
+pub mod Members
+pub mod Shape
+pub mod Keeps

@@ -1,3 +1,4 @@
 pub mod Questions
 pub mod Verdict
 pub mod Meaning
+pub mod Worked

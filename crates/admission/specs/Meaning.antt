@@ -6,10 +6,10 @@ use Prim.Native.Nat.{ℕ, _<_, _≤_}
 use Rattle.sheet.specs.declared.row.Row.{Row}
 use Rattle.sheet.specs.declared.decoded.Form.the-variants as form
 use Rattle.sheet.specs.declared.decoded.Kind.the-variants as kind
-use Rattle.sheet.specs.Asked.{passed}
+use Rattle.sheet.specs.Asked.{passed, Each}
 use Rattle.sheet.specs.Sets.{has}
 use Rattle.sheet.specs.Sheet.{Sheet, view, In-span}
-use Rattle.shaping.specs.Meaning.{Is-shaped, Each, Nesting, Forest}
+use Rattle.shaping.specs.Meaning.{Is-shaped, Nesting, Forest}
 use Rattle.typing.specs.Tests.{typed, controlled}
 use Rattle.typing.specs.Rules.{Fit, form-at, set-at, control-at, Keeps-rules}
 use Rattle.admission.specs.Questions.{type-labels, site-label, node-labels, entry-label, site-owned, site-flows, entry-rooted, entry-flows}
@@ -82,3 +82,13 @@ Admitted-keeps-rules =
 -- some policy admits the sheet
 abbrev pub Some-policy-admits : Sheet → Type 0
 Some-policy-admits S = (n : ℕ) × (flows : ℕ → ℕ → Bool) × Policy-law n flows × Is-admitted n flows S
+
+-- in a shaped sheet each type fits itself, and what fits a type that fits a third fits the third
+abbrev pub Fits-preorder : Type 0
+Fits-preorder =
+    (rs : List Row) → Is-shaped rs
+    → ((X : ℕ) → X < view rs .types → Fit (view rs) X X) × ((X Y Z : ℕ) → Fit (view rs) X Y → Fit (view rs) Y Z → Fit (view rs) X Z)
+
+-- some policy under which the sheet keeps the rules
+abbrev pub Keeps : Sheet → Type 0
+Keeps S = (n : ℕ) × (flows : ℕ → ℕ → Bool) × Policy-law n flows × Admissible n flows S

@@ -2,6 +2,7 @@
 //! that they all answer yes.
 pub mod entries;
 pub mod flow;
+pub mod guarantees;
 pub mod labels;
 pub mod nodes;
 pub mod question;

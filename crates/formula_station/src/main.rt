@@ -1,4 +1,5 @@
 //! The formula station as a program: reads a sheet and a policy, and says what they are.
+mod explain;
 mod matrix;
 mod policy_file;
 mod sheet_file;
@@ -11,7 +12,7 @@ const HELP: &str =
     "formula_station: a sheet of formulas that several parties share, under a policy of who may see whose data
 
   formula_station check SHEET.csv POLICY.txt
-        reads the sheet, shapes it, and reads the policy
+        reads the sheet, shapes it, reads the policy, and admits the sheet under it
   formula_station policy POLICY.txt
         shows which label's data may reach which label
   formula_station --help

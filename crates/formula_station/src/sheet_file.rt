@@ -1,16 +1,25 @@
 // A sheet's file: read to its end, shaped, and held against a policy.
+use super::explain;
 use super::policy_file;
 use super::policy_file::Reading;
 use super::words;
+use admission::Question as Asked;
+use policy::ClearancesPolicy;
+use policy::NarrowedPolicy;
+use policy::PairListPolicy;
+use policy::Policy;
 use shaping::Draft;
 use shaping::Question;
+use shaping::Shaped;
 use sheet::Refusal;
 use sheet::Row;
+use sheet::Table;
 use sheet_text::Refusal as TextRefusal;
 use sheet_text::read_sheet;
 use std::error::AnyError;
 use std::fs;
 use std::io;
+use typing::rules::node_type;
 
 // How many rows a sheet may have here.
 const ROOM: usize = 1024;
@@ -67,6 +76,77 @@ fn tell_shaping(rt: &LibcRuntime, rows: &[Row], refusal: Refusal<Question>) -> i
     print_text(rt, rows, row)
 }
 
+// Tells which label may not flow to which, for a question about flow.
+fn tell_flow<P: Policy>(rt: &LibcRuntime, policy: &P, set: usize, to: usize) -> io::Result<()> {
+    match explain::barred(policy, set, to) {
+        Some(from) => eprintln!(rt, "label {from} may not flow to label {to}"),
+        None => Ok(()),
+    }
+}
+
+// Tells what the rule wanted of the row that was refused.
+fn tell_rule<P: Policy>(
+    rt: &LibcRuntime,
+    table: Table,
+    policy: &P,
+    refusal: Refusal<Asked>,
+) -> io::Result<()> {
+    let site = refusal.row.saturating_sub(table.types);
+    let node = site.saturating_sub(table.sites);
+    let entry = node.saturating_sub(table.nodes);
+    match refusal.question {
+        Asked::SiteFlow => {
+            let x = table.site_at(site);
+            tell_flow(rt, policy, table.type_at(x.content).set, x.label)
+        }
+        Asked::TypeRule => {
+            let why = explain::type_rule(table, node);
+            eprintln!(rt, "node {node}: {why}")
+        }
+        Asked::ControlRule => {
+            let why = explain::control_rule(table, node);
+            eprintln!(rt, "node {node}: {why}")
+        }
+        Asked::EntryFlow => {
+            let x = table.entry_at(entry);
+            tell_flow(rt, policy, node_type(table, x.root).set, x.label)
+        }
+        _ => Ok(()),
+    }
+}
+
+// Tells that a sheet was not admitted.
+fn tell_admission<P: Policy>(
+    rt: &LibcRuntime,
+    rows: &[Row],
+    policy: &P,
+    refusal: Refusal<Asked>,
+) -> io::Result<()> {
+    let question = refusal.question.number();
+    let row = refusal.row;
+    let why = words::of_admission(refusal.question);
+    println!(rt, "admission refused {question} row {row}")?;
+    eprintln!(rt, "question {question}: {why}")?;
+    print_text(rt, rows, row)?;
+    tell_rule(rt, Table::new(rows), policy, refusal)
+}
+
+// Admits a shaped sheet under a policy: whether it was granted.
+fn admit<P: Policy>(
+    rt: &LibcRuntime,
+    rows: &[Row],
+    shaped: Shaped,
+    policy: &P,
+) -> Result<bool, AnyError> {
+    if let Err(refusal) = admission::check(&shaped, policy) {
+        tell_admission(rt, rows, policy, refusal)?;
+        return Ok(false);
+    }
+    let _admitted = admission::admit(shaped, policy);
+    println!(rt, "admitted")?;
+    Ok(true)
+}
+
 // Shapes the rows, and holds them against the policy of a file: whether everything was granted.
 fn shape(rt: &LibcRuntime, rows: &[Row], policy: &str) -> Result<bool, AnyError> {
     let draft = Draft::new(rows);
@@ -84,13 +164,10 @@ fn shape(rt: &LibcRuntime, rows: &[Row], policy: &str) -> Result<bool, AnyError>
     )?;
     match policy_file::open(rt, policy)? {
         Reading::Nothing => Ok(false),
-        _ => {
-            eprintln!(
-                rt,
-                "admission is not built yet: the policy was read, and no more"
-            )?;
-            Ok(true)
-        }
+        Reading::Pairs(policy) => admit(rt, rows, shaped, &policy),
+        Reading::Clearances(policy) => admit(rt, rows, shaped, &policy),
+        Reading::NarrowedPairs(policy) => admit(rt, rows, shaped, &policy),
+        Reading::NarrowedClearances(policy) => admit(rt, rows, shaped, &policy),
     }
 }
 

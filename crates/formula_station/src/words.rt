@@ -1,4 +1,5 @@
 // What a refusal means, in words.
+use admission::Question as AdmissionQuestion;
 use policy::Refusal as PolicyRefusal;
 use shaping::Question as ShapeQuestion;
 use sheet_text::Question as TextQuestion;
@@ -57,6 +58,29 @@ pub(crate) fn of_shape(question: ShapeQuestion) -> &'static str {
         }
         ShapeQuestion::Entries => {
             "an entry has a label 0 to 31, a root that exists, unused fields 0 and a tree that it shares with no other entry, and every node is in some entry's tree"
+        }
+    }
+}
+
+// Admitting a sheet under a policy.
+pub(crate) fn of_admission(question: AdmissionQuestion) -> &'static str {
+    match question {
+        AdmissionQuestion::Labels => {
+            "a label of this row, or a member of one of its label, effect or control sets, is not below the policy's number of labels"
+        }
+        AdmissionQuestion::SiteOwner => {
+            "the site's label is not in the label set of what the site holds"
+        }
+        AdmissionQuestion::SiteFlow => {
+            "a label of what the site holds may not flow to the site's label"
+        }
+        AdmissionQuestion::TypeRule => "this node does not keep its type rule",
+        AdmissionQuestion::ControlRule => "this node does not keep its control rule",
+        AdmissionQuestion::EntryRoot => {
+            "the entry's root gives no number, or the entry's label is not in the root's control set"
+        }
+        AdmissionQuestion::EntryFlow => {
+            "a label of the entry's figure may not flow to the entry's label"
         }
     }
 }

@@ -1,0 +1,5 @@
+use Rattle.admission.proofs.Shape.{preorder}
+use Rattle.admission.proofs.guarantees.fits_preorder.Needs as need
+
+pub returns : need.returns
+returns c = preorder
