@@ -1,5 +1,6 @@
 // When one type fits another.
 ghost use mathlib.Core.Path.{_≡_};
+ghost use Rattle.sheet.specs.Sets.{within};
 ghost use Rattle.sheet.specs.Sheet.{view};
 ghost use Rattle.typing.specs.Fitting.{row-fits, raised, fit, raised-fit};
 use super::forms::is_function;
@@ -10,6 +11,21 @@ use sheet::Form;
 use sheet::Table;
 use sheet::TypeRow;
 use sheet::sets::within;
+
+// Where function x stands for function y, it is given y's argument and takes its own: the first is to
+// fit the second.
+fn arguments(table: Table, x: TypeRow, y: TypeRow) -> (TypeRow, TypeRow)
+    ensures { λ r. ⌜ r .0 ≡ view (now (table .entry .rows)) .type (y .argument) ⌝ ∗ ⌜ r .1 ≡ view (now (table .entry .rows)) .type (x .argument) ⌝ }
+{
+    (table.type_at(y.argument), table.type_at(x.argument))
+}
+
+// Where function x stands for function y, what y's effect set promises, x's does.
+fn effect_fits(x: TypeRow, y: TypeRow) -> bool
+    ensures { λ r. ⌜ r ≡ within (y .effect) (x .effect) ⌝ }
+{
+    within(y.effect, x.effect)
+}
 
 // Type x fits type y, looked at n deep. A function's argument and result have lower numbers than the
 // function, and types nest at most eight deep, so the recursion stays small.
@@ -25,20 +41,12 @@ fn fits(table: Table, n: usize, x: TypeRow, y: TypeRow) -> bool
     match x.form {
         Form::Number => is_number(y.form),
         Form::Function => {
+            let (given, taken) = arguments(table, x, y);
+            let (got, wanted) = (table.type_at(x.result), table.type_at(y.result));
             is_function(y.form)
-                && fits(
-                    table,
-                    n - 1,
-                    table.type_at(y.argument),
-                    table.type_at(x.argument),
-                )
-                && fits(
-                    table,
-                    n - 1,
-                    table.type_at(x.result),
-                    table.type_at(y.result),
-                )
-                && within(y.effect, x.effect)
+                && fits(table, n - 1, given, taken)
+                && fits(table, n - 1, got, wanted)
+                && effect_fits(x, y)
         }
         Form::Reference => is_reference(y.form) && within(x.sites, y.sites),
         Form::Unknown => is_unknown(y.form),
