@@ -11,7 +11,8 @@ use Rattle.std.proofs.shelf.Tests.{true≢false, cases-lt, cases-bool, cond-tru
 use Rattle.std.proofs.shelf.Ways.{tells}
 use Rattle.sheet.specs.Sheet.{Sheet, parts-of, part, part-before, In-span}
 use Rattle.shaping.specs.Nodes.{parts-begin, sized, lawful-node}
-use Rattle.shaping.specs.Meaning.{Each, Nesting}
+use Rattle.sheet.specs.Asked.{Each}
+use Rattle.shaping.specs.Meaning.{Nesting}
 use Rattle.shaping.proofs.Spans.{within, nesting}
 use Rattle.guarantees.specs.Sheets.{Inside}
 use Rattle.guarantees.proofs.Addresses.{none-some}

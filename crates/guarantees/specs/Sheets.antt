@@ -7,7 +7,8 @@ use Rattle.sheet.specs.Sets.{has}
 use Rattle.sheet.specs.Sheet.{Sheet, In-span}
 use Rattle.shaping.specs.Sites.{lawful-site}
 use Rattle.shaping.specs.Nodes.{lawful-node, bound}
-use Rattle.shaping.specs.Meaning.{Each, Forest}
+use Rattle.sheet.specs.Asked.{Each}
+use Rattle.shaping.specs.Meaning.{Forest}
 use Rattle.typing.specs.Rules.{form-at, Keeps-rules}
 
 -- each entry's root gives a number

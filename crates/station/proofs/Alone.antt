@@ -17,7 +17,7 @@ use Rattle.sheet.specs.Sets.{has}
 use Rattle.station.specs.declared.question.Question.{Question}
 use Rattle.station.specs.declared.question.Question.the-variants.{ChannelArea, Target, Seat, Fuel, WorkAreas}
 use Rattle.station.specs.Calls.{Call, post, read, run-entry, seat-of, first-refused, refusal-of, after, after-by, area-after-run, channel-questions, run-questions, is-channel, roomy, fuel-allowed, areas-enough, zero-number}
-use Rattle.station.specs.Assured.{Assured, Agree, Seen-by, content-set}
+use Rattle.station.proofs.Assured.{Assured, Agree, Seen-by, content-set}
 use Rattle.station.proofs.Areas.{length-sites, getD-run, getD-sites, channel-site}
 
 -- two bits that differ
@@ -65,7 +65,7 @@ module _ (M : NumberKind) (S : Sheet) (flows : ℕ → ℕ → Bool) (sure : Ass
       let ns = take (S .sites) area in
       let k = channel-site S s h in
       getD-run M S fuel e area s (zero-number S M) room k
-      ∙ sure .confined Sees fuel e (S .entry e .label) ns is (length-sites M S area room) (sure .controls e is) (sym (ap Sees own) ∙ no-flow) s h seen
+      ∙ sure .confined b fuel e (S .entry e .label) ns is (length-sites M S area room) (sure .controls e is) (sym (ap Sees own) ∙ no-flow) s h seen
       ∙ getD-sites M S area s (zero-number S M) k
 
   struck-by : (q : Option Question) (c : Call (M .Value)) (area : List (M .Value)) → refusal-of S M c (length area) ≡ q → S .sites ≤ length area → Sees (seat-of c) ≡ false → Agree M S Sees (after-by S M q c area) area

@@ -22,7 +22,7 @@ use Rattle.evaluation.specs.Runs.{Report, report, run, run-report, numbers-afte
 use Rattle.station.specs.declared.question.Question.{Question}
 use Rattle.station.specs.Calls.{Call, post, read, run-entry, seat-of, Answer, refused, granted, told, ended, refusal-of, answer, answer-by, after, after-by, area-after-run, is-channel, zero-number}
 use Rattle.station.specs.Histories.{ending-of, without-steps}
-use Rattle.station.specs.Assured.{Assured, Agree, Seen-by, content-set, Ends-well, Both-agree}
+use Rattle.station.proofs.Assured.{Assured, Agree, Seen-by, content-set, Ends-well, Both-agree}
 use Rattle.station.proofs.Areas.{length-sites, getD-run, getD-sites, channel-site}
 use Rattle.station.proofs.Alone.{channel-granted, run-granted}
 
@@ -113,7 +113,7 @@ module _ (M : NumberKind) (S : Sheet) (flows : ℕ → ℕ → Bool) (sure : Ass
       let long = m .long in
       let room′ : S .sites ≤ length area′ = let room = m .room in omega arith in
       let l′ = length-sites M S area′ room′ in
-      let r = alike-outcomes M S Sees e (zero-number S M) o o′ ns ns′ (sure .sound fuel e ns is l) (sure .sound fuel e ns′ is l′) (some-same _ _ same) (agree-sites area area′ m) (sure .lockstep Sees fuel fuel e ns ns′ is l l′ (agree-sites area area′ m)) in (
+      let r = alike-outcomes M S Sees e (zero-number S M) o o′ ns ns′ (sure .sound fuel e ns is l) (sure .sound fuel e ns′ is l′) (some-same _ _ same) (agree-sites area area′ m) (sure .lockstep b fuel fuel e ns ns′ is l l′ (agree-sites area area′ m)) in (
         λ s h seen. let k = channel-site S s h in getD-run M S fuel e area s (zero-number S M) (m .room) k ∙ r .0 s h seen ∙ sym (getD-run M S fuel e area′ s (zero-number S M) room′ k),
         λ own. r .1 (λ a has-a. subst (λ x. flows a x ≡ true) own (sure .results e a is has-a)),
       )

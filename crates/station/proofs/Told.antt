@@ -9,7 +9,7 @@ use Rattle.number.specs.NumberKind.{NumberKind}
 use Rattle.sheet.specs.Sheet.{Sheet}
 use Rattle.station.specs.Calls.{Call, seat-of, answer, after, opened}
 use Rattle.station.specs.Histories.{Event, strike, Alike, Told-same, events, ending-of, without-steps, Noninterference}
-use Rattle.station.specs.Assured.{Assured, Agree}
+use Rattle.station.proofs.Assured.{Assured, Agree}
 use Rattle.station.proofs.Areas.{length-call, length-opened, getD-opened, channel-site}
 use Rattle.station.proofs.Alone.{struck}
 use Rattle.station.proofs.Like.{Matched, like}

@@ -60,9 +60,9 @@ module _ (M : NumberKind) (S : Sheet) where
     -- soundness, confinement, and two runs
     pub sound : (fuel e : ℕ) (ns : List (M .Value)) → e < S .entries → length ns ≡ S .sites → Ends-well (run M S fuel e ns)
     pub confined :
-        (O : ℕ → Bool) (fuel e a : ℕ) (ns : List (M .Value)) → e < S .entries → length ns ≡ S .sites
-        → has a (control-at S (S .entry e .root)) ≡ true → O a ≡ false
-        → Agree O (numbers-after (run M S fuel e ns) ns) ns
+        (b fuel e a : ℕ) (ns : List (M .Value)) → e < S .entries → length ns ≡ S .sites
+        → has a (control-at S (S .entry e .root)) ≡ true → flows a b ≡ false
+        → Agree (λ x. flows x b) (numbers-after (run M S fuel e ns) ns) ns
     pub lockstep :
-        (O : ℕ → Bool) (fuel fuel′ e : ℕ) (ns ns′ : List (M .Value)) → e < S .entries → length ns ≡ S .sites → length ns′ ≡ S .sites
-        → Agree O ns ns′ → Both-agree O e (run M S fuel e ns) (run M S fuel′ e ns′) ns ns′
+        (b fuel fuel′ e : ℕ) (ns ns′ : List (M .Value)) → e < S .entries → length ns ≡ S .sites → length ns′ ≡ S .sites
+        → Agree (λ x. flows x b) ns ns′ → Both-agree (λ x. flows x b) e (run M S fuel e ns) (run M S fuel′ e ns′) ns ns′
