@@ -38,13 +38,15 @@ pub record Starts {V : Type 0} (S : Sheet) (O : ℕ → Bool) (i : ℕ) (ρ ρ�
   pub agree : Stores-agree S O β cs cs′
 
 -- what part p gave in two runs of node i, under i's control set m
-pub record Part-agree {V : Type 0} (S : Sheet) (O : ℕ → Bool) (m p : ℕ) (β : Pairs) (cs cs′ : List (Cell V)) (v : Value V) (s : State V) (v′ : Value V) (s′ : State V) : Type 0 where
+pub record Part-agree {V : Type 0} (S : Sheet) (O : ℕ → Bool) (m p : ℕ) (β : Pairs) (cs cs′ : List (Cell V))
+    (v : Value V) (s : State V) (v′ : Value V) (s′ : State V) : Type 0 where
   pub left : Gives S m p cs v s
   pub right : Gives S m p cs′ v′ s′
   pub link : Runs-agree S O p β v s v′ s′
 
 -- what the parts p and q gave, one after the other
-pub record Parts-agree {V : Type 0} (S : Sheet) (O : ℕ → Bool) (m p q : ℕ) (β : Pairs) (cs cs′ : List (Cell V)) (f v : Value V) (s : State V) (f′ v′ : Value V) (s′ : State V) : Type 0 where
+pub record Parts-agree {V : Type 0} (S : Sheet) (O : ℕ → Bool) (m p q : ℕ) (β : Pairs) (cs cs′ : List (Cell V))
+    (f v : Value V) (s : State V) (f′ v′ : Value V) (s′ : State V) : Type 0 where
   pub first : Gives S m p cs f s
   pub second : Gives S m q cs v s
   pub first′ : Gives S m p cs′ f′ s′
