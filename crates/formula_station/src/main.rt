@@ -1,8 +1,10 @@
 //! The formula station as a program: reads a sheet and a policy, and says what they are.
 mod explain;
 mod matrix;
+mod numerals;
 mod policy_file;
 mod sheet_file;
+mod trial_lines;
 mod words;
 
 use std::env;
@@ -13,6 +15,9 @@ const HELP: &str =
 
   formula_station check SHEET.csv POLICY.txt
         reads the sheet, shapes it, reads the policy, and admits the sheet under it
+  formula_station trial SHEET.csv KIND
+        reads and shapes the sheet, and then tries its entries with every channel at 0, as the lines
+        'trial ENTRY FUEL' of standard input say; KIND is mm (millimetres) or m (metres)
   formula_station policy POLICY.txt
         shows which label's data may reach which label
   formula_station --help
@@ -23,12 +28,13 @@ The status is 0 where everything was granted, and 1 where a sheet or a policy wa
 could not be read or a command was not understood. docs/ in the repository has the formats.";
 
 const USAGE: &str =
-    "usage: formula_station check SHEET.csv POLICY.txt | policy POLICY.txt | --help";
+    "usage: formula_station check SHEET.csv POLICY.txt | trial SHEET.csv KIND | policy POLICY.txt | --help";
 
 // What a command line asks for.
 enum Command {
     Help,
     Check { sheet: String, policy: String },
+    Trial { sheet: String, kind: String },
     Policy { policy: String },
     Unknown,
 }
@@ -55,11 +61,19 @@ fn command_of(rt: &LibcRuntime) -> Result<Command, AnyError> {
         } else {
             Command::Unknown
         }),
-        (Some(name), Some(sheet), Some(policy)) => Ok(if name.as_str() == "check" {
-            Command::Check { sheet, policy }
-        } else {
-            Command::Unknown
-        }),
+        (Some(name), Some(sheet), Some(second)) => Ok(
+            match name.as_str() {
+                "check" => Command::Check {
+                    sheet,
+                    policy: second,
+                },
+                "trial" => Command::Trial {
+                    sheet,
+                    kind: second,
+                },
+                _ => Command::Unknown,
+            },
+        ),
         _ => Ok(Command::Unknown),
     }
 }
@@ -76,6 +90,7 @@ fn run(rt: &LibcRuntime) -> Result<bool, AnyError> {
             Ok(true)
         }
         Command::Check { sheet, policy } => sheet_file::check(rt, sheet.as_str(), policy.as_str()),
+        Command::Trial { sheet, kind } => trial_lines::run(rt, sheet.as_str(), kind.as_str()),
         Command::Policy { policy } => matrix::show(rt, policy.as_str()),
         Command::Unknown => {
             eprintln!(rt, "{USAGE}")?;

@@ -1,5 +1,6 @@
 // A policy's file: 'pairs N' or 'clearances N' first, then 'flow A B' lines of a pair list, or
 // 'rank LABEL RANK' and 'compartments LABEL SET' lines of clearances, and 'revoke A B' lines last.
+use super::numerals::natural;
 use super::words;
 use policy::Clearances;
 use policy::ClearancesPolicy;
@@ -46,21 +47,6 @@ impl From<Refusal> for Fault as FaultFromRefusal {
     }
 }
 
-// A number from 0 on; one that is too large for its type is the largest, which is past every limit.
-fn number_of(word: &str) -> Option<u64> {
-    if word.is_empty() {
-        return None;
-    }
-    let mut n: u64 = 0;
-    for byte in word.as_bytes() {
-        if *byte < b'0' || *byte > b'9' {
-            return None;
-        }
-        n = n.saturating_mul(10).saturating_add(u64::from(*byte - b'0'));
-    }
-    Some(n)
-}
-
 // A label, or how many there are: past every limit where it is past 32 bits.
 fn label_of(n: u64) -> u32 {
     if n <= 4294967295 {
@@ -100,9 +86,9 @@ fn line_of(keyword: &str, first: u64, second: Option<u64>) -> Option<Line> {
 fn parse(text: &str) -> Option<Line> {
     let mut words = text.split_whitespace();
     let keyword = words.next()?;
-    let first = number_of(words.next()?)?;
+    let first = natural(words.next()?)?;
     let second = match words.next() {
-        Some(word) => Some(number_of(word)?),
+        Some(word) => Some(natural(word)?),
         None => None,
     };
     match words.next() {

@@ -67,7 +67,11 @@ fn print_text(rt: &LibcRuntime, rows: &[Row], k: usize) -> io::Result<()> {
 }
 
 // Tells that a sheet was refused.
-fn tell_shaping(rt: &LibcRuntime, rows: &[Row], refusal: Refusal<Question>) -> io::Result<()> {
+pub(crate) fn tell_shaping(
+    rt: &LibcRuntime,
+    rows: &[Row],
+    refusal: Refusal<Question>,
+) -> io::Result<()> {
     let question = refusal.question.number();
     let row = refusal.row;
     let why = words::of_shape(refusal.question);
@@ -155,13 +159,7 @@ fn shape(rt: &LibcRuntime, rows: &[Row], policy: &str) -> Result<bool, AnyError>
         return Ok(false);
     }
     let shaped = draft.shape();
-    let counts = shaped.counts();
-    let (types, sites) = (counts.types, counts.sites);
-    let (nodes, entries) = (counts.nodes, counts.entries);
-    println!(
-        rt,
-        "shaped {types} types {sites} sites {nodes} nodes {entries} entries"
-    )?;
+    tell_counts(rt, &shaped)?;
     match policy_file::open(rt, policy)? {
         Reading::Nothing => Ok(false),
         Reading::Pairs(policy) => admit(rt, rows, shaped, &policy),
@@ -171,20 +169,40 @@ fn shape(rt: &LibcRuntime, rows: &[Row], policy: &str) -> Result<bool, AnyError>
     }
 }
 
-// Reads a sheet, shapes it and holds it against a policy: whether everything was granted.
-pub(crate) fn check(rt: &LibcRuntime, path: &str, policy: &str) -> Result<bool, AnyError> {
+// Tells how many types, sites, nodes and entries there are.
+pub(crate) fn tell_counts(rt: &LibcRuntime, shaped: &Shaped) -> io::Result<()> {
+    let counts = shaped.counts();
+    let (types, sites) = (counts.types, counts.sites);
+    let (nodes, entries) = (counts.nodes, counts.entries);
+    println!(
+        rt,
+        "shaped {types} types {sites} sites {nodes} nodes {entries} entries"
+    )
+}
+
+// The rows of a file; none where they cannot be read, and why is told.
+pub(crate) fn read(rt: &LibcRuntime, path: &str) -> Result<Option<Vec<Row>>, AnyError> {
     let Some(bytes) = load(rt, path)? else {
-        return Ok(false);
+        return Ok(None);
     };
     let mut table = vec![in rt.alloc(); BLANK; ROOM]?;
-    let count = match read_sheet(bytes.as_slice(), table.as_mut_slice()) {
-        Ok(count) => count,
+    match read_sheet(bytes.as_slice(), table.as_mut_slice()) {
+        Ok(count) => {
+            println!(rt, "read {count} rows")?;
+            table.truncate(count);
+            Ok(Some(table))
+        }
         Err(refusal) => {
             tell_reading(rt, refusal)?;
-            return Ok(false);
+            Ok(None)
         }
-    };
-    println!(rt, "read {count} rows")?;
-    table.truncate(count);
-    shape(rt, table.as_slice(), policy)
+    }
+}
+
+// Reads a sheet, shapes it and holds it against a policy: whether everything was granted.
+pub(crate) fn check(rt: &LibcRuntime, path: &str, policy: &str) -> Result<bool, AnyError> {
+    match read(rt, path)? {
+        Some(rows) => shape(rt, rows.as_slice(), policy),
+        None => Ok(false),
+    }
 }

@@ -1,5 +1,6 @@
 // What a refusal means, in words.
 use admission::Question as AdmissionQuestion;
+use evaluator::Refusal as TrialRefusal;
 use policy::Refusal as PolicyRefusal;
 use shaping::Question as ShapeQuestion;
 use sheet_text::Question as TextQuestion;
@@ -82,5 +83,14 @@ pub(crate) fn of_admission(question: AdmissionQuestion) -> &'static str {
         AdmissionQuestion::EntryFlow => {
             "a label of the entry's figure may not flow to the entry's label"
         }
+    }
+}
+
+// Trying an entry.
+pub(crate) fn of_trial(refusal: TrialRefusal) -> &'static str {
+    match refusal {
+        TrialRefusal::Entry => "the sheet has no such entry",
+        TrialRefusal::Fuel => "fuel is 1 to 1,000,000 steps",
+        TrialRefusal::Areas => "a work area is too short",
     }
 }
