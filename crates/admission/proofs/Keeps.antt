@@ -1,8 +1,5 @@
 -- An admitted sheet keeps the rules.
-use mathlib.Core.Path.{_≡_, refl, sym, ap, subst, _∙_}
-use mathlib.Core.Bool.{Bool, true, false, _&&_}
 use mathlib.Core.List.{List}
-use Prim.Native.Nat.{ℕ, _<_}
 use Rattle.std.proofs.shelf.Tests.{and-parts, ltb-true}
 use Rattle.sheet.specs.declared.row.Row.{Row}
 use Rattle.sheet.specs.Sheet.{Sheet, view}
@@ -10,7 +7,7 @@ use Rattle.shaping.specs.Meaning.{Is-shaped}
 use Rattle.typing.specs.Meaning.{Names-sites}
 use Rattle.typing.proofs.Exactly.{number-is}
 use Rattle.typing.proofs.Nodes.{rules-exactly}
-use Rattle.admission.specs.Meaning.{Is-admitted, Accepted, Well-shaped, Admissible, Admitted-keeps-rules, Keeps, Some-policy-admits}
+use Rattle.admission.specs.Meaning.{Accepted, Well-shaped, Admitted-keeps-rules, Keeps, Some-policy-admits}
 use Rattle.admission.proofs.Yes.{accepted}
 use Rattle.admission.proofs.Members.{member-below, label-flows}
 use Rattle.admission.proofs.Shape.{type-set, node-has-type, site-content, well-shaped}

@@ -1,5 +1,5 @@
 -- The members of a set with a bound, and where they all flow.
-use mathlib.Core.Path.{_≡_, refl, sym, ap, _∙_}
+use mathlib.Core.Path.{_≡_, sym, ap}
 use mathlib.Core.Bool.{Bool, true, false, not, _||_}
 use mathlib.Core.Logic.{⊎-elim}
 use Prim.Native.Nat.{ℕ, _<_, _≤_, _^_, _/_, _%_}
@@ -7,7 +7,6 @@ use native.Mathlib.Nat.{div-eq-of-lt}
 use native.Mathlib.Omega.{arith}
 use lib.Pow.{pow-mono}
 use Rattle.std.proofs.shelf.Tests.{true≢false, cases-lt, ltb-true}
-use Rattle.sheet.specs.Asked.{every}
 use Rattle.sheet.specs.Sets.{has, set-below}
 use Rattle.sheet.proofs.Asking.{every-means}
 use Rattle.typing.proofs.Sets.{digit}

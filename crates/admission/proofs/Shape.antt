@@ -1,9 +1,9 @@
 -- What shaping says, as facts, and that each type of a shaped sheet fits itself.
-use mathlib.Core.Path.{_≡_, refl, sym, ap, subst, _∙_}
-use mathlib.Core.Bool.{Bool, true, false, _&&_, _||_}
+use mathlib.Core.Path.{_≡_, refl, sym, subst}
+use mathlib.Core.Bool.{true, false, _&&_, _||_}
 use mathlib.Core.List.{List}
 use mathlib.Core.Logic.{⊎-elim}
-use Prim.Native.Nat.{ℕ, zero, suc, _+_, _-_, _<_, _≤_}
+use Prim.Native.Nat.{ℕ, zero, suc, _-_, _<_}
 use native.Mathlib.Omega.{arith}
 use lib.Dec.{eqb, ltb}
 use Rattle.std.proofs.shelf.Tests.{true≢false, and-parts, or-cases, eqb-true, ltb-true}
@@ -12,8 +12,8 @@ use Rattle.sheet.specs.declared.decoded.Form.{Form}
 use Rattle.sheet.specs.declared.decoded.Form.the-variants as form
 use Rattle.sheet.specs.declared.decoded.Kind.{Kind}
 use Rattle.sheet.specs.declared.decoded.Kind.the-variants as kind
-use Rattle.sheet.specs.Sets.{has, set-below}
-use Rattle.sheet.specs.Sheet.{Sheet, view, parts-of, In-span}
+use Rattle.sheet.specs.Sets.{set-below}
+use Rattle.sheet.specs.Sheet.{Sheet, view, parts-of}
 use Rattle.shaping.specs.Types.{lawful-fields, nests, parts-nest}
 use Rattle.shaping.specs.Sites.{is-number, spare}
 use Rattle.shaping.specs.Nodes.{lawful-argument, bound-by, is-lambda, parts-begin, sized}

@@ -1,10 +1,7 @@
 // Questions 34 and 35: every node keeps its type rule and its control rule.
 ghost use mathlib.Core.Path.{_≡_};
-ghost use Prim.Native.Nat.{ℕ, _<_};
 ghost use denote.Ref.{now};
-ghost use Rattle.sheet.specs.Asked.{refuse};
-ghost use Rattle.sheet.specs.Sheet.{view, first-row};
-ghost use Rattle.sheet.specs.declared.section.Section.the-variants as section;
+ghost use Rattle.sheet.specs.Sheet.{view};
 ghost use Rattle.admission.specs.Questions.{rules-kept};
 ghost use Rattle.admission.specs.Verdict.{broken, rules-verdict};
 use super::question::Question;

@@ -1,14 +1,12 @@
 -- The test of fitting says what fitting is.
-use mathlib.Core.Path.{_≡_, refl, sym, ap, subst, _∙_}
-use mathlib.Core.Bool.{Bool, true, false, _&&_}
+use mathlib.Core.Path.{_≡_, refl, sym, _∙_}
+use mathlib.Core.Bool.{Bool, true, false}
 use Prim.Native.Nat.{ℕ, zero, suc}
 use native.Mathlib.Omega.{arith}
-use lib.Bits.{bitOr}
 use Rattle.std.proofs.shelf.Tests.{true≢false, and-parts, and-from}
 use Rattle.sheet.specs.declared.decoded.TypeRow.{TypeRow}
 use Rattle.sheet.specs.declared.decoded.Form.{Form}
 use Rattle.sheet.specs.declared.decoded.Form.the-variants as form
-use Rattle.sheet.specs.Sets.{within}
 use Rattle.sheet.specs.Sheet.{Sheet}
 use Rattle.typing.specs.Fitting.{is-number, is-function, is-reference, is-unknown, parts-fit, row-fits, raised, fit, raised-fit}
 use Rattle.typing.specs.Rules.{Within, Fits, Fit, Raised}

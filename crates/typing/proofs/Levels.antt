@@ -1,7 +1,7 @@
 -- One level of a type.
-use mathlib.Core.Path.{_≡_, refl, sym, ap, _∙_}
-use mathlib.Core.Bool.{Bool, true, false, _&&_}
-use Prim.Native.Nat.{ℕ, zero, suc, _-_}
+use mathlib.Core.Path.{_≡_, refl, ap}
+use mathlib.Core.Bool.{false, _&&_}
+use Prim.Native.Nat.{ℕ, suc, _-_}
 use native.Mathlib.Omega.{arith}
 use Rattle.sheet.specs.declared.decoded.TypeRow.{TypeRow}
 use Rattle.sheet.specs.Sets.{within}

@@ -1,22 +1,20 @@
 -- The tests of questions 34 and 35 say what the type rule and the control rule are.
-use mathlib.Core.Path.{_≡_, refl, sym, ap, _∙_}
-use mathlib.Core.Bool.{Bool, true, false, not, _&&_, _||_}
-use mathlib.Core.Logic.{⊎-elim}
+use mathlib.Core.Path.{_≡_, refl}
+use mathlib.Core.Bool.{Bool, true, false, not, _||_}
 use Prim.Native.Nat.{ℕ, _<_, _-_}
 use native.Mathlib.Omega.{arith}
 use lib.Bits.{bitOr}
-use lib.Dec.{eqb}
-use Rattle.std.proofs.shelf.Tests.{and-parts, and-from, cases-bool, eq-eqb}
+use Rattle.std.proofs.shelf.Tests.{and-parts, and-from, eq-eqb}
 use Rattle.sheet.specs.declared.decoded.Kind.{Kind}
 use Rattle.sheet.specs.declared.decoded.Kind.the-variants.{Literal, Variable, Lambda, Application, New, Channel, Read, Write, Choice, Operation, Unknown}
 use Rattle.sheet.specs.declared.decoded.Form.the-variants as form
 use Rattle.sheet.specs.Asked.{every}
-use Rattle.sheet.specs.Sets.{has, within}
-use Rattle.sheet.specs.Sheet.{Sheet, part, part-before}
+use Rattle.sheet.specs.Sets.{has}
+use Rattle.sheet.specs.Sheet.{Sheet, part}
 use Rattle.sheet.proofs.Asking.{every-means, every-from}
 use Rattle.typing.specs.Fitting.{raised-fit}
 use Rattle.typing.specs.Tests.{typed-by, controlled-by, reads-site, writes-site, under-two, node-type}
-use Rattle.typing.specs.Rules.{Within, Fit, Raised, Typed, Controlled, form-at, set-at, sites-at, type-at, control-at}
+use Rattle.typing.specs.Rules.{Within, Raised, Typed, Controlled, form-at, set-at, sites-at, type-at, control-at}
 use Rattle.typing.specs.Meaning.{Iff, Names-sites, Rules-exactly}
 use Rattle.typing.proofs.Sets.{within-is, union-within}
 use Rattle.typing.proofs.Exactly.{never, number-is, function-is, reference-is, fit-is, raised-fit-is}

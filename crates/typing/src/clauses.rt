@@ -1,7 +1,7 @@
 // What the type rule asks at each kind of node, once the forms are right.
 ghost use mathlib.Core.Path.{_≡_};
 ghost use denote.Ref.{now};
-ghost use Rattle.sheet.specs.Sheet.{view, part};
+ghost use Rattle.sheet.specs.Sheet.{view};
 ghost use Rattle.typing.specs.Tests.{applies, chooses, creates, operates, reads, reads-site, under, under-two, writes, writes-site};
 use super::fitting::fit;
 use super::fitting::raised_fit;
