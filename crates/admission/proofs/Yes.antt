@@ -10,6 +10,7 @@ use Rattle.sheet.specs.declared.section.Section.the-variants as section
 use Rattle.sheet.specs.Asked.{none, first-no, every, Verdict, told, asked, _then_, passed}
 use Rattle.sheet.specs.Sheet.{Sheet}
 use Rattle.sheet.proofs.Asking.{every-means, every-from}
+use Rattle.sheet.proofs.Verdicts.{then-parts, then-from, each-of, each-from}
 use Rattle.sheet.specs.Asked.{Each}
 use Rattle.typing.specs.Tests.{typed, controlled}
 use Rattle.admission.specs.declared.question.Question.{Question}
@@ -17,31 +18,6 @@ use Rattle.admission.specs.declared.question.Question.the-variants.{Labels, Si
 use Rattle.admission.specs.Questions.{type-labels, site-label, node-labels, entry-label, site-owned, site-flows, rules-kept, entry-rooted, entry-flows}
 use Rattle.admission.specs.Verdict.{over, labels-verdict, sites-verdict, told-rules, rules-verdict, entries-verdict}
 use Rattle.admission.specs.Meaning.{Is-admitted, Accepted, Admitted-exactly}
-
--- two verdicts in a row are yes exactly when both are
-then-parts : (v w : Verdict Question) → passed (v then w) ≡ true → (passed v ≡ true) × (passed w ≡ true)
-then-parts (Ok u) w h = (refl, h)
-then-parts (Err e) w h = absurd (true≢false (sym h))
-
-then-from : (v w : Verdict Question) → passed v ≡ true → passed w ≡ true → passed (v then w) ≡ true
-then-from (Ok u) w h k = k
-then-from (Err e) w h k = absurd (true≢false (sym h))
-
--- a question asked of each is yes exactly when there is no no
-told-is : (q : Question) (b : ℕ) (o : Option ℕ) → passed (told q b o) ≡ none o
-told-is q b None = refl
-told-is q b (Some k) = refl
-
-asked-is : (q : Question) (b : ℕ) (p : ℕ → Bool) (n : ℕ) → passed (asked q b p n) ≡ every p n
-unfolding asked
-asked-is q b p n = told-is q b (first-no p 0 n)
-
--- and so when its test says yes of each
-each-of : (q : Question) (b : ℕ) (p : ℕ → Bool) (n : ℕ) → passed (asked q b p n) ≡ true → Each n p
-each-of q b p n h = every-means p n (sym (asked-is q b p n) ∙ h)
-
-each-from : (q : Question) (b : ℕ) (p : ℕ → Bool) (n : ℕ) → Each n p → passed (asked q b p n) ≡ true
-each-from q b p n h = asked-is q b p n ∙ every-from p n h
 
 -- the nodes pass exactly when none breaks a rule
 rules-are : (S : Sheet) (o : Option ℕ) → passed (told-rules S o) ≡ none o
