@@ -1,5 +1,4 @@
 //! A hundred trials of one sheet: the machine's speed is measured by the time that this program takes.
-use evaluator::Report;
 use evaluator::trial;
 use machine::Binding;
 use machine::Cell;
@@ -16,8 +15,8 @@ use std::io;
 
 mod table;
 
-// The steps of so many trials.
-fn steps_of(sheet: &Shaped, rounds: usize) -> usize {
+// The steps of one trial.
+fn steps_of(sheet: &Shaped) -> usize {
     let value: Value<Millimetres> = Value::Reference(0);
     let stage: Stage<Millimetres> = Stage::Passes;
     let mut pending = [Frame {
@@ -31,13 +30,10 @@ fn steps_of(sheet: &Shaped, rounds: usize) -> usize {
         outer: 0,
     }; 1024];
     let mut held = [Cell { site: 0, value }; 544];
-    let mut steps: usize = 0;
-    for _ in 0..rounds {
-        if let Ok(report) = trial(sheet, 0, 1000000, &mut pending, &mut bound, &mut held) {
-            steps = steps.saturating_add(report.steps);
-        }
+    match trial(sheet, 0, 1000000, &mut pending, &mut bound, &mut held) {
+        Ok(report) => report.steps,
+        Err(_) => 0,
     }
-    steps
 }
 
 // The steps of a hundred trials.
@@ -46,7 +42,11 @@ fn measured() -> Result<usize, Refusal<Question>> {
     let draft = Draft::new(&rows);
     draft.check()?;
     let sheet = draft.shape();
-    Ok(steps_of(&sheet, 100))
+    let mut steps: usize = 0;
+    for _ in 0..100 {
+        steps = steps.saturating_add(steps_of(&sheet));
+    }
+    Ok(steps)
 }
 
 fn main(rt: LibcRuntime) -> io::Result<()> {
