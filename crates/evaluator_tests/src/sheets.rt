@@ -12,7 +12,7 @@ fn row(letter: char, a: i64, b: i64, c: i64, d: i64, e: i64) -> Row {
     }
 }
 
-pub fn number() -> [Row; 5] {
+pub(crate) fn number() -> [Row; 5] {
     [
         row('T', 0, 0, 0, 0, 0),
         row('S', 0, 0, 1, 0, 0),
@@ -22,7 +22,7 @@ pub fn number() -> [Row; 5] {
     ]
 }
 
-pub fn negative() -> [Row; 5] {
+pub(crate) fn negative() -> [Row; 5] {
     [
         row('T', 0, 0, 0, 0, 0),
         row('S', 0, 0, 1, 0, 0),
@@ -32,7 +32,7 @@ pub fn negative() -> [Row; 5] {
     ]
 }
 
-pub fn applied_number() -> [Row; 7] {
+pub(crate) fn applied_number() -> [Row; 7] {
     [
         row('T', 0, 0, 0, 0, 0),
         row('S', 0, 0, 1, 0, 0),
@@ -44,7 +44,7 @@ pub fn applied_number() -> [Row; 7] {
     ]
 }
 
-pub fn double() -> [Row; 10] {
+pub(crate) fn double() -> [Row; 10] {
     [
         row('T', 0, 0, 0, 0, 0),
         row('S', 0, 0, 1, 0, 0),
@@ -59,7 +59,7 @@ pub fn double() -> [Row; 10] {
     ]
 }
 
-pub fn difference() -> [Row; 13] {
+pub(crate) fn difference() -> [Row; 13] {
     [
         row('T', 0, 0, 0, 0, 0),
         row('S', 0, 0, 1, 0, 0),
@@ -77,7 +77,7 @@ pub fn difference() -> [Row; 13] {
     ]
 }
 
-pub fn quotient() -> [Row; 7] {
+pub(crate) fn quotient() -> [Row; 7] {
     [
         row('T', 0, 0, 0, 0, 0),
         row('S', 0, 0, 1, 0, 0),
@@ -89,7 +89,7 @@ pub fn quotient() -> [Row; 7] {
     ]
 }
 
-pub fn choice_zero() -> [Row; 8] {
+pub(crate) fn choice_zero() -> [Row; 8] {
     [
         row('T', 0, 0, 0, 0, 0),
         row('S', 0, 0, 1, 0, 0),
@@ -102,7 +102,7 @@ pub fn choice_zero() -> [Row; 8] {
     ]
 }
 
-pub fn choice_one() -> [Row; 8] {
+pub(crate) fn choice_one() -> [Row; 8] {
     [
         row('T', 0, 0, 0, 0, 0),
         row('S', 0, 0, 1, 0, 0),
@@ -115,7 +115,7 @@ pub fn choice_one() -> [Row; 8] {
     ]
 }
 
-pub fn read_new() -> [Row; 7] {
+pub(crate) fn read_new() -> [Row; 7] {
     [
         row('T', 0, 0, 0, 0, 0),
         row('S', 0, 0, 1, 0, 0),
@@ -127,7 +127,7 @@ pub fn read_new() -> [Row; 7] {
     ]
 }
 
-pub fn write_channel() -> [Row; 7] {
+pub(crate) fn write_channel() -> [Row; 7] {
     [
         row('T', 0, 0, 0, 0, 0),
         row('S', 0, 0, 1, 0, 0),
@@ -139,7 +139,7 @@ pub fn write_channel() -> [Row; 7] {
     ]
 }
 
-pub fn write_then_read() -> [Row; 11] {
+pub(crate) fn write_then_read() -> [Row; 11] {
     [
         row('T', 0, 0, 0, 0, 0),
         row('S', 0, 0, 1, 0, 0),
@@ -155,7 +155,7 @@ pub fn write_then_read() -> [Row; 11] {
     ]
 }
 
-pub fn stored_function() -> [Row; 16] {
+pub(crate) fn stored_function() -> [Row; 16] {
     [
         row('T', 0, 0, 0, 0, 0),
         row('S', 0, 0, 1, 0, 0),
@@ -176,7 +176,7 @@ pub fn stored_function() -> [Row; 16] {
     ]
 }
 
-pub fn function() -> [Row; 6] {
+pub(crate) fn function() -> [Row; 6] {
     [
         row('T', 0, 0, 0, 0, 0),
         row('S', 0, 0, 1, 0, 0),
@@ -187,7 +187,7 @@ pub fn function() -> [Row; 6] {
     ]
 }
 
-pub fn reference() -> [Row; 5] {
+pub(crate) fn reference() -> [Row; 5] {
     [
         row('T', 0, 0, 0, 0, 0),
         row('S', 0, 0, 1, 0, 0),
@@ -197,7 +197,7 @@ pub fn reference() -> [Row; 5] {
     ]
 }
 
-pub fn read_number() -> [Row; 6] {
+pub(crate) fn read_number() -> [Row; 6] {
     [
         row('T', 0, 0, 0, 0, 0),
         row('S', 0, 0, 1, 0, 0),
@@ -208,7 +208,7 @@ pub fn read_number() -> [Row; 6] {
     ]
 }
 
-pub fn write_number() -> [Row; 7] {
+pub(crate) fn write_number() -> [Row; 7] {
     [
         row('T', 0, 0, 0, 0, 0),
         row('S', 0, 0, 1, 0, 0),
@@ -220,7 +220,7 @@ pub fn write_number() -> [Row; 7] {
     ]
 }
 
-pub fn choice_of_function() -> [Row; 9] {
+pub(crate) fn choice_of_function() -> [Row; 9] {
     [
         row('T', 0, 0, 0, 0, 0),
         row('S', 0, 0, 1, 0, 0),
@@ -234,7 +234,7 @@ pub fn choice_of_function() -> [Row; 9] {
     ]
 }
 
-pub fn sum_with_reference() -> [Row; 7] {
+pub(crate) fn sum_with_reference() -> [Row; 7] {
     [
         row('T', 0, 0, 0, 0, 0),
         row('S', 0, 0, 1, 0, 0),
@@ -246,7 +246,7 @@ pub fn sum_with_reference() -> [Row; 7] {
     ]
 }
 
-pub fn self_application() -> [Row; 13] {
+pub(crate) fn self_application() -> [Row; 13] {
     [
         row('T', 0, 0, 0, 0, 0),
         row('S', 0, 0, 1, 0, 0),
@@ -264,7 +264,7 @@ pub fn self_application() -> [Row; 13] {
     ]
 }
 
-pub fn bindings_full() -> [Row; 52] {
+pub(crate) fn bindings_full() -> [Row; 52] {
     [
         row('T', 0, 0, 0, 0, 0),
         row('S', 0, 0, 1, 0, 0),
@@ -321,7 +321,7 @@ pub fn bindings_full() -> [Row; 52] {
     ]
 }
 
-pub fn bindings_past() -> [Row; 57] {
+pub(crate) fn bindings_past() -> [Row; 57] {
     [
         row('T', 0, 0, 0, 0, 0),
         row('S', 0, 0, 1, 0, 0),
@@ -383,7 +383,7 @@ pub fn bindings_past() -> [Row; 57] {
     ]
 }
 
-pub fn cells_full() -> [Row; 38] {
+pub(crate) fn cells_full() -> [Row; 38] {
     [
         row('T', 0, 0, 0, 0, 0),
         row('S', 0, 0, 1, 0, 0),
@@ -426,7 +426,7 @@ pub fn cells_full() -> [Row; 38] {
     ]
 }
 
-pub fn cells_past() -> [Row; 42] {
+pub(crate) fn cells_past() -> [Row; 42] {
     [
         row('T', 0, 0, 0, 0, 0),
         row('S', 0, 0, 1, 0, 0),

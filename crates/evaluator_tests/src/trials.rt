@@ -82,7 +82,7 @@ fn tried_with(
 }
 
 // One trial, and what it must come to.
-pub fn expect(rows: &[Row], entry: usize, fuel: usize, answer: Told) -> Result<(), Fail> {
+pub(crate) fn expect(rows: &[Row], entry: usize, fuel: usize, answer: Told) -> Result<(), Fail> {
     match tried_with(rows, entry, fuel, 1030) {
         Ok(told) => {
             check_eq(told.0, answer.0)?;
