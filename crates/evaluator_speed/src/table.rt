@@ -12,7 +12,7 @@ fn row(letter: char, a: i64, b: i64, c: i64, d: i64, e: i64) -> Row {
     }
 }
 
-pub fn rows() -> [Row; 329] {
+pub(crate) fn rows() -> [Row; 329] {
     [
         row('T', 0, 0, 0, 0, 0),
         row('S', 0, 0, 1, 0, 0),
