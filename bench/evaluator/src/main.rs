@@ -179,12 +179,15 @@ fn trial(rows: &[Row], entry: usize, fuel: usize) -> (Result<Value, Stop>, usize
 
 fn main() {
     let rows = std::hint::black_box(table::ROWS);
-    let mut steps = 0;
+    let (mut steps, mut shortest) = (0, u128::MAX);
     for _ in 0..100 {
+        let start = std::time::Instant::now();
         let (outcome, made) = std::hint::black_box(trial(&rows, 0, 1_000_000));
+        shortest = shortest.min(start.elapsed().as_nanos());
         if outcome.is_ok() {
             steps += made;
         }
     }
     println!("{steps} steps");
+    eprintln!("one trial: {shortest} ns");
 }
