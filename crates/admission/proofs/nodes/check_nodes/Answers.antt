@@ -5,8 +5,8 @@ use Rattle.admission.specs.Questions.{rules_kept}
 use Rattle.admission.proofs.Told.{rules_told}
 use Rattle.admission.proofs.nodes.check_nodes.Goals as goal
 
-pub overflow-add-result-in-Some : goal.overflow-add-result-in-Some
-overflow-add-result-in-Some c =
+pub overflow_add-result-in-Some : goal.overflow_add-result-in-Some
+overflow_add-result-in-Some c =
     let b = first_bound (rules_kept (view c.args.table.rows.now)) 0 c.args.table.nodes c.in-Some.i (sym c.in-Some.ensures) in
     search rules
 

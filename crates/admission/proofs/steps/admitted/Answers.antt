@@ -1,8 +1,8 @@
 -- What an admitted sheet carries: that it is shaped, and that some policy, of which nothing else is kept, admits it.
 use Rattle.admission.proofs.steps.admitted.Goals as goal
 
-pub invariant-of-result : goal.invariant-of-result
-invariant-of-result g c =
+pub invariant_of-result : goal.invariant_of-result
+invariant_of-result g c =
     let p = c.args.policy.now in
     let law = g.met.P.Policy in (
       c.requires.shaped,

@@ -29,20 +29,20 @@ pub returns-in-Halt : goal.returns-in-Halt
 returns-in-Halt g c = ends_stop g.K.Number.kind (view c.args.table.now.rows.now) (record { bindings = room c.args.bindings.now; cells = room c.args.cells.now }) g.K.Number.value c.args.fuel (room c.args.frames.now) _ _ _ _ _ _ c.loop-next.invariant.4 _ c.in-Halt.is
 
 -- a node is started
-pub loop-next-smaller-in-default : goal.loop-next-smaller-in-default
-loop-next-smaller-in-default g c =
+pub loop-next-smaller-in_default : goal.loop-next-smaller-in_default
+loop-next-smaller-in_default g c =
     let free = not_refused c.loop-next.steps c.args.fuel (room c.args.frames.now) (length (live c.loop-next.frames)) c.is-full.result
-    (c.is-full.ensures ∙ ap (λ (x : ℕ). leb x (length (live c.loop-next.frames))) c.loop-next.invariant.1) c.in-default.ensures in
+    (c.is-full.ensures ∙ ap (λ (x : ℕ). leb x (length (live c.loop-next.frames))) c.loop-next.invariant.1) c.in_default.ensures in
     let s = c.loop-next.invariant.0 in
     let n = free.0 in
     let l : c.loop-next.steps < c.args.fuel = grind arith in
     falls_start g.K.Number.kind (view c.args.table.now.rows.now) (record { bindings = room c.args.bindings.now; cells = room c.args.cells.now }) g.K.Number.value c.args.fuel (room c.args.frames.now) _ _ _ _ _ _ c.loop-next.invariant.4
     c.in-Start.node c.in-Start.scope c.in-Start.is _ _ (c.start-next.ensures.step (cells g.K.Number.value (live c.loop-next.cells))) l
 
-pub loop-next-preserved-in-default : goal.loop-next-preserved-in-default
-loop-next-preserved-in-default g c =
+pub loop-next-preserved-in_default : goal.loop-next-preserved-in_default
+loop-next-preserved-in_default g c =
     let free = not_refused c.loop-next.steps c.args.fuel (room c.args.frames.now) (length (live c.loop-next.frames)) c.is-full.result
-    (c.is-full.ensures ∙ ap (λ (x : ℕ). leb x (length (live c.loop-next.frames))) c.loop-next.invariant.1) c.in-default.ensures in
+    (c.is-full.ensures ∙ ap (λ (x : ℕ). leb x (length (live c.loop-next.frames))) c.loop-next.invariant.1) c.in_default.ensures in
     let s = c.loop-next.invariant.0 in
     let n = free.0 in
     let t : c.loop-next.steps + 1 ≤ c.args.fuel = grind arith in (

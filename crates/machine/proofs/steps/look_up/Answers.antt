@@ -12,10 +12,10 @@ returns-then-place-eq0 g c =
     seek_empty g.K.Number.value c.loop-left.left c.args.function c.loop-left.place (bindings g.K.Number.value (live c.args.bindings.now)) c.if-place-eq0.true
     ∙ c.loop-left.invariant
 
-pub returns-in-default : goal.returns-in-default
-returns-in-default g c =
+pub returns-in_default : goal.returns-in_default
+returns-in_default g c =
     let h : 0 < c.loop-left.place = omega arith in
-    seek_past g.K.Number.value c.loop-left.left c.args.function c.loop-left.place (live c.args.bindings.now) c.loop-left-test.true h c.in-default.ensures
+    seek_past g.K.Number.value c.loop-left.left c.args.function c.loop-left.place (live c.args.bindings.now) c.loop-left-test.true h c.in_default.ensures
     ∙ c.loop-left.invariant
 
 pub returns-then-b-function : goal.returns-then-b-function

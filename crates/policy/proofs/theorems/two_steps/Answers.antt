@@ -9,9 +9,9 @@ pub returns : goal.returns
 returns c =
     let relation : (x y : ℕ) → pair_list_flows c.allow-2.new.self x y ≡ with_pair (with_pair (only_self 3) 0 1) 1 2 x y =
     λ x y.
-    c.in-ok-allow-2.ensures.relation x y
-    ∙ ap (λ v. (eqb x 1 && eqb y 2) || v) (c.in-ok-allow.ensures.relation x y
-    ∙ ap (λ v. (eqb x 0 && eqb y 1) || v) (c.in-ok-p.ensures.relation x y)) in
+    c.in_ok-allow-2.ensures.relation x y
+    ∙ ap (λ v. (eqb x 1 && eqb y 2) || v) (c.in_ok-allow.ensures.relation x y
+    ∙ ap (λ v. (eqb x 0 && eqb y 1) || v) (c.in_ok-p.ensures.relation x y)) in
     record {
       size = search rules;
       relation = relation;

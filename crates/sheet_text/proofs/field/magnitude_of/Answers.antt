@@ -5,8 +5,8 @@ use Rattle.sheet_text.proofs.Numerals.{digit_on, digit_stops, digit_room, digits
 use Rattle.sheet_text.proofs.field.magnitude_of.Goals as goal
 use Rattle.sheet_text.proofs.field.magnitude_of.Goals.{then-digit-lt48-via-then-digit-lt48, then-digit-lt48-via-else-digit-lt48+then-digit-gt57}
 
-pub overflow-mul-n : goal.overflow-mul-n
-overflow-mul-n c =
+pub overflow_mul-n : goal.overflow_mul-n
+overflow_mul-n c =
     let few : c.loop-digit.digit-index < 10 = omega arith in
     let small = digits_small c.loop-digit.n c.loop-digit.digit-index c.loop-digit.invariant.1 few in
     search rules

@@ -4,10 +4,10 @@ use Rattle.sheet_text.specs.Rows.{rows_from, row_in}
 use Rattle.sheet_text.proofs.Filled.{fill_row, fill_stop, fill_all}
 use Rattle.sheet_text.proofs.read.fill.Goals as goal
 
-pub returns-in-default : goal.returns-in-default
-returns-in-default c =
+pub returns-in_default : goal.returns-in_default
+returns-in_default c =
     let rs = rows_from c.loop-i.reader in
-    sym (fill_stop c.loop-i.table c.loop-i.i rs (λ l e. c.in-default.not-Fields l (c.read-row.ensures.value ∙ e))) ∙ c.loop-i.invariant
+    sym (fill_stop c.loop-i.table c.loop-i.i rs (λ l e. c.in_default.not-Fields l (c.read-row.ensures.value ∙ e))) ∙ c.loop-i.invariant
 
 pub loop-i-preserved : goal.loop-i-preserved
 loop-i-preserved c =

@@ -5,13 +5,15 @@ use Rattle.std.proofs.lemmas.Bool.Decides.{nat_tests}
 use Rattle.std.proofs.Common.{refl, arith}
 
 -- the pair counts as one more, and its labels differ
-pub invariant-of-self : goal.invariant-of-self
-invariant-of-self g c =
+pub invariant_of-self : goal.invariant_of-self
+invariant_of-self g c =
     let was = c.args.self.now.tally in
-    let more = pairs_more (holds c.args.self.now.revoked) (holds c.insert.new.self) c.args.a c.args.b (omega arith) (omega arith) c.requires.fresh c.insert.ensures in (
-      omega arith,
-      (omega arith, (λ k. let one = c.insert.ensures k k in let own = c.args.self.now.apart k in let ne = c.requires.different in grind (arith, nat_tests), tt)),
-    )
+    let more = pairs_more (holds c.args.self.now.revoked) (holds c.insert.new.self) c.args.a c.args.b (omega arith) (omega arith) c.requires.fresh c.insert.ensures in
+    record {
+      room = omega arith;
+      tally = omega arith;
+      apart = λ k. let one = c.insert.ensures k k in let own = c.args.self.now.apart k in let ne = c.requires.different in grind (arith, nat_tests);
+    }
 
 pub returns : goal.returns
 returns g c =

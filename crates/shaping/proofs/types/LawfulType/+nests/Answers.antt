@@ -12,5 +12,5 @@ returns-then-nests t c = let s = nests_step (view c.args.self.now.table.rows.now
 pub returns-else-nests : goal.returns-else-nests
 returns-else-nests t c = let s = nests_step (view c.args.self.now.table.rows.now) c.args.n c.args.t c.if-n-eq0.false in grind arith
 
-pub returns-in-default : goal.returns-in-default
-returns-in-default t c = let s = nests_step (view c.args.self.now.table.rows.now) c.args.n c.args.t c.if-n-eq0.false in grind arith
+pub returns-in_default : goal.returns-in_default
+returns-in_default t c = let s = nests_step (view c.args.self.now.table.rows.now) c.args.n c.args.t c.if-n-eq0.false in grind arith

@@ -3,8 +3,16 @@ use Rattle.sheet.specs.Sheet.{view}
 use Rattle.sheet.proofs.Counted.{counted_once}
 use Rattle.sheet.proofs.table.Table.new.Goals as goal
 
-pub invariant-of-result : goal.invariant-of-result
+pub invariant_of-result : goal.invariant_of-result
 unfolding view
-invariant-of-result c =
+invariant_of-result c =
     let o = counted_once c.args.rows.now in
-    (refl, (refl, (c.count.ensures, (c.count-2.ensures, (c.count-3.ensures, (c.count-4.ensures, (omega arith, tt)))))))
+    record {
+      whole = refl;
+      r = refl;
+      t = c.count.ensures;
+      s = c.count-2.ensures;
+      n = c.count-3.ensures;
+      e = c.count-4.ensures;
+      room = omega arith;
+    }
