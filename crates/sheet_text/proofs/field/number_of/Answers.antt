@@ -8,4 +8,4 @@ returns-in-45 c =
     let xs = c.args.bytes.now in
     let some : 0 < length xs = search rules in
     let dash : get_or xs 0 0 ≡ 45 = search rules in
-    c.negative.ensures ∙ ap (at_most 2147483648 (λ m. neg_ℤ (pos m))) c.magnitude-of.ensures ∙ sym (number_minus xs some dash)
+    c.negative.ensures ∙ ap (at_most 2147483648 (λ m. neg_ℤ (pos m))) c.magnitude_of.ensures ∙ sym (number_minus xs some dash)

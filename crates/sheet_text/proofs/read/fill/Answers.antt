@@ -7,7 +7,7 @@ use Rattle.sheet_text.proofs.read.fill.Goals as goal
 pub returns-in_default : goal.returns-in_default
 returns-in_default c =
     let rs = rows_from c.loop-i.reader in
-    sym (fill_stop c.loop-i.table c.loop-i.i rs (λ l e. c.in_default.not-Fields l (c.read-row.ensures.value ∙ e))) ∙ c.loop-i.invariant
+    sym (fill_stop c.loop-i.table c.loop-i.i rs (λ l e. c.in_default.not-Fields l (c.read_row.ensures.value ∙ e))) ∙ c.loop-i.invariant
 
 pub loop-i-preserved : goal.loop-i-preserved
 loop-i-preserved c =
@@ -16,7 +16,7 @@ loop-i-preserved c =
     let line = c.in-Fields.line in
     let s = c.in-Fields.ensures in
     let h : i < length table = omega arith in
-    ap (λ x. take (i + 1) (set table i x) ++ filled (drop (i + 1) (set table i x)) (rows_from c.read-row.new.self)) c.row.ensures
+    ap (λ x. take (i + 1) (set table i x) ++ filled (drop (i + 1) (set table i x)) (rows_from c.read_row.new.self)) c.row.ensures
     ∙ ap (λ rs. take (i + 1) (set table i (row_in line)) ++ filled (drop (i + 1) (set table i (row_in line))) rs) s.rest
     ∙ fill_row table i (rows_from c.loop-i.reader) line h s.value ∙ c.loop-i.invariant
 

@@ -3,7 +3,7 @@ use Rattle.sheet_text.specs.Symbols.{symbols}
 use Rattle.sheet_text.specs.Lines.{raw, continued, Scanned}
 use Rattle.sheet_text.proofs.Marks.{field_bare, field_quoted, drop_tail, length_tail}
 use Rattle.sheet_text.proofs.scan.next_field.Goals as goal
-use Rattle.sheet_text.proofs.scan.next_field.Goals.{in_default-via-then-rest-lt1, in_default-via-else-rest-lt1+in_default·}
+use Rattle.sheet_text.proofs.scan.next_field.Goals.{in_default-via-then-rest-lt1, in_default-via-else-rest-lt1+in_default-1}
 
 pub returns-in-Some : goal.returns-in-Some
 returns-in-Some c =
@@ -31,5 +31,5 @@ returns-in-None c =
 pub returns-in_default : goal.returns-in_default
 returns-in_default c =
     let xs = c.args.rest.now in
-    let lone = λ (some : 0 < length xs) (q : get_or xs 0 0 ≡ 34). elim c.in_default.branch as (λ _. ⊥) [ in_default-via-then-rest-lt1 w ↦ search rules | in_default-via-else-rest-lt1+in_default· w ↦ search rules ] in
-    subst (λ rs. Scanned xs rs c.args.at c.bare-field.result) (sym (field_bare xs lone)) c.bare-field.ensures
+    let lone = λ (some : 0 < length xs) (q : get_or xs 0 0 ≡ 34). elim c.in_default.branch as (λ _. ⊥) [ in_default-via-then-rest-lt1 w ↦ search rules | in_default-via-else-rest-lt1+in_default-1 w ↦ search rules ] in
+    subst (λ rs. Scanned xs rs c.args.at c.bare_field.result) (sym (field_bare xs lone)) c.bare_field.ensures

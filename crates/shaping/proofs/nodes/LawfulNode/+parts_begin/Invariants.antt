@@ -1,4 +1,4 @@
 use Rattle.shaping.proofs.nodes.LawfulNode.+parts_begin.Given as goal
 
-abbrev pub decreases-parts-begin : goal.decreases-parts-begin
-decreases-parts-begin l = l.n
+abbrev pub decreases-parts_begin : goal.decreases-parts_begin
+decreases-parts_begin l = l.n

@@ -24,7 +24,7 @@ returns-in-RowEnd c =
     let inv = c.loop-step.invariant in
     let f = raw step.field in
     let r = step_read xs at step s ∙ ap (λ m. continued f m (symbols (drop (at + step.size) xs))) c.in-RowEnd.is in
-    let with_one = c.take.ensures ∙ ap (taken line) c.bytes-of.ensures in (
+    let with_one = c.take.ensures ∙ ap (taken line) c.bytes_of.ensures in (
       step_past xs at step s c.args.start inv.0 inv.2,
       step_within xs at step s inv.1,
       sym inv.3 ∙ ap (next_after line) r ∙ ap Fields (sym with_one),
@@ -42,7 +42,7 @@ loop-step-preserved c =
     let f = raw step.field in
     let more = field (symbols (drop (at + step.size) xs)) in
     let r = step_read xs at step s ∙ ap (λ m. continued f m (symbols (drop (at + step.size) xs))) c.in_default.is in
-    let with_one = c.take.ensures ∙ ap (taken line) c.bytes-of.ensures in
+    let with_one = c.take.ensures ∙ ap (taken line) c.bytes_of.ensures in
     let past : c.args.start < at + step.size = step_past xs at step s c.args.start inv.0 inv.2 in (
       omega arith,
       step_within xs at step s inv.1,
