@@ -19,8 +19,8 @@ loop-next-init g c = (omega arith, refl, refl, refl, begins g.K.Number.kind (vie
 
 pub returns-in-Some : goal.returns-in-Some
 returns-in-Some g c =
-    ends_refused g.K.Number.kind (view c.args.table.now.rows.now) (record { bindings = room c.args.bindings.now; cells = room c.args.cells.now }) g.K.Number.value c.args.fuel (room c.args.frames.now) _ _ _ _ _ _ c.loop-next.invariant.4 c.in-Some.stop c.is-full.result _ _ c.in-Start.is
-    (c.is-full.ensures ∙ ap (λ (x : ℕ). leb x (length (live c.loop-next.frames))) c.loop-next.invariant.1) c.in-Some.ensures
+    ends_refused g.K.Number.kind (view c.args.table.now.rows.now) (record { bindings = room c.args.bindings.now; cells = room c.args.cells.now }) g.K.Number.value c.args.fuel (room c.args.frames.now) _ _ _ _ _ _ c.loop-next.invariant.4 c.in-Some.stop c.is_full.result _ _ c.in-Start.is
+    (c.is_full.ensures ∙ ap (λ (x : ℕ). leb x (length (live c.loop-next.frames))) c.loop-next.invariant.1) c.in-Some.ensures
 
 pub returns-in-None : goal.returns-in-None
 returns-in-None g c = ends_done g.K.Number.kind (view c.args.table.now.rows.now) (record { bindings = room c.args.bindings.now; cells = room c.args.cells.now }) g.K.Number.value c.args.fuel (room c.args.frames.now) _ _ _ _ _ _ c.loop-next.invariant.4 _ c.in-Return.is (empty_from_top _ (sym c.in-None.ensures.answer))
@@ -31,8 +31,8 @@ returns-in-Halt g c = ends_stop g.K.Number.kind (view c.args.table.now.rows.now)
 -- a node is started
 pub loop-next-smaller-in_default : goal.loop-next-smaller-in_default
 loop-next-smaller-in_default g c =
-    let free = not_refused c.loop-next.steps c.args.fuel (room c.args.frames.now) (length (live c.loop-next.frames)) c.is-full.result
-    (c.is-full.ensures ∙ ap (λ (x : ℕ). leb x (length (live c.loop-next.frames))) c.loop-next.invariant.1) c.in_default.ensures in
+    let free = not_refused c.loop-next.steps c.args.fuel (room c.args.frames.now) (length (live c.loop-next.frames)) c.is_full.result
+    (c.is_full.ensures ∙ ap (λ (x : ℕ). leb x (length (live c.loop-next.frames))) c.loop-next.invariant.1) c.in_default.ensures in
     let s = c.loop-next.invariant.0 in
     let n = free.0 in
     let l : c.loop-next.steps < c.args.fuel = grind arith in
@@ -41,8 +41,8 @@ loop-next-smaller-in_default g c =
 
 pub loop-next-preserved-in_default : goal.loop-next-preserved-in_default
 loop-next-preserved-in_default g c =
-    let free = not_refused c.loop-next.steps c.args.fuel (room c.args.frames.now) (length (live c.loop-next.frames)) c.is-full.result
-    (c.is-full.ensures ∙ ap (λ (x : ℕ). leb x (length (live c.loop-next.frames))) c.loop-next.invariant.1) c.in_default.ensures in
+    let free = not_refused c.loop-next.steps c.args.fuel (room c.args.frames.now) (length (live c.loop-next.frames)) c.is_full.result
+    (c.is_full.ensures ∙ ap (λ (x : ℕ). leb x (length (live c.loop-next.frames))) c.loop-next.invariant.1) c.in_default.ensures in
     let s = c.loop-next.invariant.0 in
     let n = free.0 in
     let t : c.loop-next.steps + 1 ≤ c.args.fuel = grind arith in (

@@ -12,7 +12,7 @@ returns-then-push g c =
       step =
           λ fs bs.
           created g.K.Number.value (view c.args.table.now.rows.now) (room c.args.cells.now) _ _ _ _ _ _ _ fs bs
-          c.if-push.true c.push.ensures.answer c.push.ensures.held c.len-address.ensures (ap (λ (x : NodeRow). x.argument) c.node-at-site.ensures);
+          c.if-push.true c.push.ensures.answer c.push.ensures.held c.len-address.ensures (ap (λ (x : NodeRow). x.argument) c.node_at-site.ensures);
     }
 
 pub returns-else-push : goal.returns-else-push

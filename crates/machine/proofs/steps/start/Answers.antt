@@ -12,8 +12,8 @@ returns-in-Application g c =
       step =
           λ cs.
           kinded g.K.Number.kind (view c.args.table.now.rows.now) g.K.Number.value _ Application _ _ _ _ _
-          (ap (λ (x : NodeRow). x.kind) (sym c.node-at-row.ensures) ∙ c.in-Application.is)
-          (pended g.K.Number.value _ _ _ _ _ _ _ _ _ _ c.pend.ensures.next c.pend.ensures.held c.middle-of.ensures);
+          (ap (λ (x : NodeRow). x.kind) (sym c.node_at-row.ensures) ∙ c.in-Application.is)
+          (pended g.K.Number.value _ _ _ _ _ _ _ _ _ _ c.pend.ensures.next c.pend.ensures.held c.middle_of.ensures);
     }
 
 pub returns-in-New : goal.returns-in-New
@@ -23,8 +23,8 @@ returns-in-New g c =
       step =
           λ cs.
           kinded g.K.Number.kind (view c.args.table.now.rows.now) g.K.Number.value _ New _ _ _ _ _
-          (ap (λ (x : NodeRow). x.kind) (sym c.node-at-row.ensures) ∙ c.in-New.is)
-          (pended g.K.Number.value _ _ _ _ _ _ _ _ _ _ c.pend-in-New.ensures.next c.pend-in-New.ensures.held c.last-of.ensures);
+          (ap (λ (x : NodeRow). x.kind) (sym c.node_at-row.ensures) ∙ c.in-New.is)
+          (pended g.K.Number.value _ _ _ _ _ _ _ _ _ _ c.pend-in-New.ensures.next c.pend-in-New.ensures.held c.last_of.ensures);
     }
 
 pub returns-in-Read : goal.returns-in-Read
@@ -34,8 +34,8 @@ returns-in-Read g c =
       step =
           λ cs.
           kinded g.K.Number.kind (view c.args.table.now.rows.now) g.K.Number.value _ Read _ _ _ _ _
-          (ap (λ (x : NodeRow). x.kind) (sym c.node-at-row.ensures) ∙ c.in-Read.is)
-          (pended g.K.Number.value _ _ _ _ _ _ _ _ _ _ c.pend-in-Read.ensures.next c.pend-in-Read.ensures.held c.last-of-in-Read.ensures);
+          (ap (λ (x : NodeRow). x.kind) (sym c.node_at-row.ensures) ∙ c.in-Read.is)
+          (pended g.K.Number.value _ _ _ _ _ _ _ _ _ _ c.pend-in-Read.ensures.next c.pend-in-Read.ensures.held c.last_of-in-Read.ensures);
     }
 
 pub returns-in-Write : goal.returns-in-Write
@@ -45,8 +45,8 @@ returns-in-Write g c =
       step =
           λ cs.
           kinded g.K.Number.kind (view c.args.table.now.rows.now) g.K.Number.value _ Write _ _ _ _ _
-          (ap (λ (x : NodeRow). x.kind) (sym c.node-at-row.ensures) ∙ c.in-Write.is)
-          (pended g.K.Number.value _ _ _ _ _ _ _ _ _ _ c.pend-in-Write.ensures.next c.pend-in-Write.ensures.held c.middle-of-in-Write.ensures);
+          (ap (λ (x : NodeRow). x.kind) (sym c.node_at-row.ensures) ∙ c.in-Write.is)
+          (pended g.K.Number.value _ _ _ _ _ _ _ _ _ _ c.pend-in-Write.ensures.next c.pend-in-Write.ensures.held c.middle_of-in-Write.ensures);
     }
 
 pub returns-in-Choice : goal.returns-in-Choice
@@ -56,8 +56,8 @@ returns-in-Choice g c =
       step =
           λ cs.
           kinded g.K.Number.kind (view c.args.table.now.rows.now) g.K.Number.value _ Choice _ _ _ _ _
-          (ap (λ (x : NodeRow). x.kind) (sym c.node-at-row.ensures) ∙ c.in-Choice.is)
-          (pended g.K.Number.value _ _ _ _ _ _ _ _ _ _ c.pend-in-Choice.ensures.next c.pend-in-Choice.ensures.held c.first-of.ensures);
+          (ap (λ (x : NodeRow). x.kind) (sym c.node_at-row.ensures) ∙ c.in-Choice.is)
+          (pended g.K.Number.value _ _ _ _ _ _ _ _ _ _ c.pend-in-Choice.ensures.next c.pend-in-Choice.ensures.held c.first_of.ensures);
     }
 
 pub returns-in-Operation : goal.returns-in-Operation
@@ -67,6 +67,6 @@ returns-in-Operation g c =
       step =
           λ cs.
           kinded g.K.Number.kind (view c.args.table.now.rows.now) g.K.Number.value _ Operation _ _ _ _ _
-          (ap (λ (x : NodeRow). x.kind) (sym c.node-at-row.ensures) ∙ c.in-Operation.is)
-          (pended g.K.Number.value _ _ _ _ _ _ _ _ _ _ c.pend-in-Operation.ensures.next c.pend-in-Operation.ensures.held c.middle-of-in-Operation.ensures);
+          (ap (λ (x : NodeRow). x.kind) (sym c.node_at-row.ensures) ∙ c.in-Operation.is)
+          (pended g.K.Number.value _ _ _ _ _ _ _ _ _ _ c.pend-in-Operation.ensures.next c.pend-in-Operation.ensures.held c.middle_of-in-Operation.ensures);
     }

@@ -18,11 +18,11 @@ returns-then-fits-2 t c = let s = fits_step (view c.args.table.rows.now) c.args.
 pub returns-else-fits-2 : goal.returns-else-fits-2
 returns-else-fits-2 t c = let s = fits_step (view c.args.table.rows.now) c.args.n c.args.x c.args.y c.if-n-eq0.false in grind arith
 
-pub returns-then-is-reference : goal.returns-then-is-reference
-returns-then-is-reference t c = let s = fits_step (view c.args.table.rows.now) c.args.n c.args.x c.args.y c.if-n-eq0.false in grind arith
+pub returns-then-is_reference : goal.returns-then-is_reference
+returns-then-is_reference t c = let s = fits_step (view c.args.table.rows.now) c.args.n c.args.x c.args.y c.if-n-eq0.false in grind arith
 
-pub returns-else-is-reference : goal.returns-else-is-reference
-returns-else-is-reference t c = let s = fits_step (view c.args.table.rows.now) c.args.n c.args.x c.args.y c.if-n-eq0.false in grind arith
+pub returns-else-is_reference : goal.returns-else-is_reference
+returns-else-is_reference t c = let s = fits_step (view c.args.table.rows.now) c.args.n c.args.x c.args.y c.if-n-eq0.false in grind arith
 
 pub returns-in-Unknown : goal.returns-in-Unknown
 returns-in-Unknown t c = let s = fits_step (view c.args.table.rows.now) c.args.n c.args.x c.args.y c.if-n-eq0.false in grind arith
