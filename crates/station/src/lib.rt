@@ -1,5 +1,7 @@
 //! The station: the calls of the seats of an admitted sheet, by definition, and what no history of
 //! them shows.
+#![tactic(auto)]
+
 pub mod promise;
 pub mod question;
 

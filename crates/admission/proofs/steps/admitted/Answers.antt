@@ -8,10 +8,10 @@ invariant_of-result g c =
     record {
       shaped = c.requires.shaped;
       admitted =
-        ∣ (
-          g.P.Policy.size p,
-          g.P.Policy.flows p,
-          record { counted = law.counted p; reflexive = law.reflexive p; sources = law.sources p; targets = law.targets p },
-          c.requires.admitted,
-        ) ∣₁;
+          ∣ (
+            g.P.Policy.size p,
+            g.P.Policy.flows p,
+            record { counted = law.counted p; reflexive = law.reflexive p; sources = law.sources p; targets = law.targets p },
+            c.requires.admitted,
+          ) ∣₁;
     }

@@ -1,4 +1,4 @@
-use Rattle.std.proofs.Common.{◌≡◌, ℕ, ◌+◌, ◌-◌, ◌≤◌, map, length, ap, ◌∙◌, arith, length-take-le}
+use Rattle.std.proofs.Common.{◌≡◌, ◌+◌, ◌-◌, ◌≤◌, map, length, ap, ◌∙◌, arith, length-take-le}
 use Rattle.stack.specs.Live.{live, room}
 use Rattle.sheet.specs.declared.decoded.EntryRow.{EntryRow}
 use Rattle.sheet.specs.Sheet.{view}

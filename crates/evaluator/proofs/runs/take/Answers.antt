@@ -1,4 +1,4 @@
-use Rattle.std.proofs.Common.{◌≡◌, sym, refl, ap, ◌∙◌}
+use Rattle.std.proofs.Common.{◌∙◌}
 use Rattle.stack.specs.Live.{live}
 use Rattle.evaluator.proofs.Loading.{taken_none, taken_number, taken_all}
 use Rattle.evaluator.proofs.runs.take.Goals as goal
