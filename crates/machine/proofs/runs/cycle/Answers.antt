@@ -82,9 +82,9 @@ loop-next-preserved g c =
     omega arith in
     let w = whole _ _ _ c.in-Some-pop.ensures.answer c.in-Some-pop.ensures.held in (
       c.loop-next.invariant.0,
-      c.resume.ensures.frames-places ∙ c.in-Some-pop.ensures.places ∙ c.loop-next.invariant.1,
-      c.resume.ensures.bindings-places ∙ c.loop-next.invariant.2,
-      c.resume.ensures.cells-places ∙ c.loop-next.invariant.3,
+      c.resume.ensures.frames_places ∙ c.in-Some-pop.ensures.places ∙ c.loop-next.invariant.1,
+      c.resume.ensures.bindings_places ∙ c.loop-next.invariant.2,
+      c.resume.ensures.cells_places ∙ c.loop-next.invariant.3,
       goes_return g.K.Number.kind (view c.args.table.now.rows.now) (record { bindings = room c.args.bindings.now; cells = room c.args.cells.now }) g.K.Number.value c.args.fuel (room c.args.frames.now) _ _ _ _ _ _ c.loop-next.invariant.4
           c.in-Return.value c.in-Return.is c.in-Some-pop.frame _ _ w _ _ _
           (c.resume.ensures.step
