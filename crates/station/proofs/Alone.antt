@@ -1,5 +1,5 @@
 -- One call alone: a struck one leaves what the observer may see, and two like ones tell the observer the same.
-use Rattle.std.proofs.Common.{◌≡◌, ℕ, ◌<◌, ◌≤◌, Bool, true, false, cond, ◌&&◌, eqb, ltb, leb, ◌≢◌, List, [], ◌∷◌, length, get_or, take, set, Some, None, Option, sym, refl, ap, ◌∙◌, subst, ap₂, arith, get_or-set_other, get_or-set_same}
+use Rattle.std.proofs.Common.{◌≡◌, ℕ, ◌<◌, ◌≤◌, Bool, true, false, cond, eqb, ltb, List, [], ◌∷◌, length, take, set, Some, None, Option, sym, refl, ap, ◌∙◌, arith, get_or-set_other}
 use Rattle.std.proofs.lemmas.Bool.Decides.{nat_tests}
 use Rattle.number.specs.NumberKind.{NumberKind}
 use Rattle.sheet.specs.Sheet.{Sheet}
@@ -7,7 +7,7 @@ use Rattle.sheet.specs.Sets.{has}
 use Rattle.station.specs.declared.question.Question.{Question}
 use Rattle.station.specs.declared.question.Question.TheVariants.{ChannelArea, Target, Seat, Fuel, WorkAreas}
 use Rattle.station.specs.Calls.{Call, post, read, run_entry, seat_of, first_refused, refusal_of, after, after_by, area_after_run, channel_questions, run_questions, is_channel, roomy, fuel_allowed, areas_enough, zero_number}
-use Rattle.station.proofs.Assured.{Assured, Agree, SeenBy, content_set}
+use Rattle.station.proofs.Assured.{Assured, Agree, content_set}
 use Rattle.station.proofs.Areas.{length_sites, getD_run, getD_sites, channel_site}
 
 -- two bits that differ
@@ -15,7 +15,7 @@ apart : {b : Bool} → b ≡ true → b ≡ false → ⊥
 apart h k = let z : ◌≡◌ {A = ℕ} 1 0 = ap (λ b. cond b 1 0) (sym h ∙ k) in omega arith
 
 -- where nothing is refused, every question was answered yes
-yes_first : (q : Question) (t : Bool) (qs : List (Question × Bool)) → first_refused ((q, t) ∷ qs) ≡ None → (t ≡ true) × (first_refused qs ≡ None)
+pub yes_first : (q : Question) (t : Bool) (qs : List (Question × Bool)) → first_refused ((q, t) ∷ qs) ≡ None → (t ≡ true) × (first_refused qs ≡ None)
 yes_first q true qs h = (refl, h)
 yes_first q false qs h = let z : ◌≡◌ {A = ℕ} 0 1 = cc in absurd (omega arith)
 

@@ -1,12 +1,12 @@
 -- Areas: how long they stay, and what their places hold.
-use Rattle.std.proofs.Common.{◌≡◌, ℕ, suc, ◌+◌, ◌-◌, ◌<◌, ◌≤◌, Bool, true, false, cond, ◌&&◌, eqb, ltb, leb, List, [], ◌∷◌, ◌++◌, length, get_or, take, drop, set, replicate, Some, None, Option, sym, refl, ap, ◌∙◌, ap₂, arith, length-append, length-drop, length-set, length-take-le, get_or-take}
+use Rattle.std.proofs.Common.{◌≡◌, ℕ, suc, ◌<◌, ◌≤◌, true, List, [], ◌∷◌, length, get_or, take, drop, replicate, Some, None, Option, refl, ap, ◌∙◌, arith, length-append, length-drop, length-set, length-take-le, get_or-take}
 use lib.ListN.{length-replicate}
 use Rattle.std.proofs.lemmas.List.{get_or_append_left, get_or-replicate}
 use Rattle.std.proofs.lemmas.Bool.Decides.{nat_tests}
 use Rattle.station.specs.declared.question.Question.{Question}
 use Rattle.number.specs.NumberKind.{NumberKind}
 use Rattle.sheet.specs.Sheet.{Sheet}
-use Rattle.evaluation.specs.Values.{Value, number, closure, reference, Cell, Outcome, done, stopped}
+use Rattle.evaluation.specs.Values.{number, closure, reference, Cell, Outcome, done, stopped}
 use Rattle.evaluation.specs.Runs.{written, numbers_after, run}
 use Rattle.station.specs.Calls.{Call, post, read, run_entry, refusal_of, after, after_by, area_after_run, is_channel, opened, zero_number}
 

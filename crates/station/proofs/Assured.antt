@@ -4,7 +4,7 @@ use Rattle.number.specs.NumberKind.{NumberKind}
 use Rattle.sheet.specs.Sets.{has}
 use Rattle.sheet.specs.Sheet.{Sheet}
 use Rattle.evaluation.specs.declared.ending.Stop.TheVariants.{FuelSpent, PendingFull, BindingsFull, CellsFull, Stuck}
-use Rattle.evaluation.specs.Values.{Value, number, closure, reference, Outcome, done, stopped}
+use Rattle.evaluation.specs.Values.{number, closure, reference, Outcome, done, stopped}
 use Rattle.evaluation.specs.Runs.{run, numbers_after}
 use Rattle.typing.specs.Rules.{set_at, control_at}
 use Rattle.station.specs.Calls.{zero_number, is_channel}

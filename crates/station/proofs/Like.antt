@@ -1,19 +1,19 @@
 -- Two like calls over areas that agree where the observer may see: they agree again, and the observer is told the same.
-use Rattle.std.proofs.Common.{◌≡◌, ℕ, ◌<◌, ◌≤◌, Bool, true, false, cond, eqb, List, length, get_or, take, set, Some, None, Option, sym, refl, ap, ◌∙◌, subst, ap₂, arith, get_or-set_other, get_or-set_same}
+use Rattle.std.proofs.Common.{◌≡◌, ℕ, ◌<◌, ◌≤◌, Bool, true, false, cond, eqb, List, length, get_or, take, set, Some, None, Option, sym, refl, ap, ◌∙◌, subst, arith, get_or-set_other, get_or-set_same}
 use Rattle.std.proofs.lemmas.Bool.Decides.{nat_tests}
 use Rattle.number.specs.NumberKind.{NumberKind}
 use Rattle.sheet.specs.Sheet.{Sheet}
 use Rattle.typing.specs.Rules.{set_at}
 use Rattle.evaluation.specs.declared.ending.Stop.{Stop}
 use Rattle.evaluation.specs.declared.ending.Stop.TheVariants.{FuelSpent, PendingFull, BindingsFull, CellsFull, Stuck}
-use Rattle.evaluation.specs.declared.ending.Ending.TheVariants.{Number, Stopped, NoNumber}
+use Rattle.evaluation.specs.declared.ending.Ending.TheVariants.{Number, Stopped}
 use Rattle.evaluation.specs.Endings.{number_of}
-use Rattle.evaluation.specs.Values.{Value, number, closure, reference, Outcome, done, stopped}
+use Rattle.evaluation.specs.Values.{number, closure, reference, Outcome, done, stopped}
 use Rattle.evaluation.specs.Runs.{Report, report, run, run_report, numbers_after}
 use Rattle.station.specs.declared.question.Question.{Question}
-use Rattle.station.specs.Calls.{Call, post, read, run_entry, seat_of, Answer, refused, granted, told, ended, refusal_of, answer, answer_by, after, after_by, area_after_run, is_channel, zero_number}
+use Rattle.station.specs.Calls.{Call, post, read, run_entry, seat_of, Answer, told, ended, refusal_of, answer, answer_by, after, after_by, area_after_run, is_channel, zero_number}
 use Rattle.station.specs.Histories.{ending_of, without_steps}
-use Rattle.station.proofs.Assured.{Assured, Agree, SeenBy, content_set, EndsWell, BothAgree}
+use Rattle.station.proofs.Assured.{Assured, Agree, SeenBy, EndsWell, BothAgree}
 use Rattle.station.proofs.Areas.{length_sites, getD_run, getD_sites, channel_site}
 use Rattle.station.proofs.Alone.{channel_granted, run_granted}
 

@@ -1,19 +1,18 @@
 -- What is promised of the runs of an admitted sheet is what the station's theorem rests on.
-use Rattle.std.proofs.Common.{◌≡◌, ℕ, ◌<◌, Bool, true, false, ◌&&◌, eqb, ltb, List, length, get_or, Some, sym, refl, ap, ◌∙◌, subst, arith}
+use Rattle.std.proofs.Common.{◌≡◌, ℕ, ◌<◌, Bool, true, List, length, get_or, Some, sym, refl, ap, ◌∙◌, subst, arith}
 use Rattle.std.proofs.lemmas.Option.{slice_get-get_or}
 use Rattle.std.proofs.lemmas.Bool.Decides.{nat_tests}
 use Rattle.std.specs.List.{slice_get}
 use Rattle.number.specs.NumberKind.{NumberKind}
 use Rattle.sheet.specs.Sheet.{Sheet}
 use Rattle.evaluation.specs.declared.ending.Stop.TheVariants.{FuelSpent, PendingFull, BindingsFull, CellsFull, Stuck}
-use Rattle.evaluation.specs.Values.{Value, number, closure, reference, Outcome, done, stopped}
-use Rattle.evaluation.specs.Runs.{run, report, run_report, numbers_after}
-use Rattle.evaluation.specs.Endings.{number_of}
+use Rattle.evaluation.specs.Values.{number, closure, reference, Outcome, done, stopped}
+use Rattle.evaluation.specs.Runs.{run, report, numbers_after}
 use Rattle.admission.specs.Meaning.{Admissible}
 use Rattle.guarantees.specs.Sheets.{Channel, Visible}
-use Rattle.guarantees.specs.Promises.{EndsSoundly, flowing_to, ChannelsAgree, Soundness, Confinement, TwoRuns}
+use Rattle.guarantees.specs.Promises.{EndsSoundly, ChannelsAgree, Soundness, Confinement, TwoRuns}
 use Rattle.station.specs.Calls.{is_channel, zero_number}
-use Rattle.station.proofs.Assured.{Assured, Agree, SeenBy, EndsWell, BothAgree}
+use Rattle.station.proofs.Assured.{Assured, Agree, EndsWell, BothAgree}
 use Rattle.station.proofs.Areas.{channel_site, length_after}
 
 -- a channel, as a test and as a fact

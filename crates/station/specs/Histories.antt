@@ -1,10 +1,8 @@
 -- Histories of calls, and what no history may show: the contract line.
-use Rattle.std.specs.Prelude.{◌≡◌, ℕ, ◌<◌, ◌≤◌, Bool, true, false, cond, List, [], ◌∷◌, length, Some, None, Option}
+use Rattle.std.specs.Prelude.{◌≡◌, ℕ, ◌<◌, ◌≤◌, Bool, cond, List, [], ◌∷◌, length, Some, None, Option}
 use Rattle.number.specs.NumberKind.{NumberKind}
 use Rattle.sheet.specs.Sheet.{Sheet, view}
-use Rattle.evaluation.specs.declared.ending.Ending.{Ending}
 use Rattle.evaluation.specs.Endings.{number_of}
-use Rattle.evaluation.specs.Runs.{Report, run_report}
 use Rattle.sheet.specs.declared.row.Row.{Row}
 use Rattle.shaping.specs.Meaning.{IsShaped}
 use Rattle.admission.specs.Meaning.{IsAdmitted}
