@@ -1,8 +1,8 @@
 -- The verdict is yes exactly when each question holds of each row.
-use Rattle.std.proofs.Common.{◌≡◌, ℕ, Bool, true, false, Some, None, Ok, Err, Option, sym, refl, ◌∙◌}
-use Rattle.std.proofs.lemmas.Bool.{true≢false, and_parts, and_from}
+use Rattle.std.proofs.Common.{◌≡◌, ℕ, Bool, true, Some, None, Option, sym, refl, ◌∙◌}
+use Rattle.std.proofs.lemmas.Bool.{and_parts, and_from}
 use Rattle.sheet.specs.declared.section.Section.TheVariants as section
-use Rattle.sheet.specs.Asked.{none, first_no, every, Verdict, told, asked, ◌then◌, passed}
+use Rattle.sheet.specs.Asked.{none, first_no, Verdict, ◌then◌, passed}
 use Rattle.sheet.specs.Sheet.{Sheet}
 use Rattle.sheet.proofs.Asking.{every_means, every_from}
 use Rattle.sheet.proofs.Verdicts.{then_parts, then_from, each_of, each_from}

@@ -1,5 +1,7 @@
 //! Admission: the questions 31 to 37 that a shaped sheet is asked under a flow policy, and the sheet
 //! that they all answer yes.
+#![tactic(auto)]
+
 pub mod entries;
 pub mod flow;
 pub mod guarantees;

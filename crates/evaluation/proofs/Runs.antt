@@ -4,7 +4,7 @@ use Rattle.number.specs.NumberKind.{NumberKind}
 use Rattle.sheet.specs.Sheet.{Sheet}
 use Rattle.evaluation.specs.declared.ending.Stop.TheVariants.{FuelSpent}
 use Rattle.evaluation.specs.declared.ending.Ending.TheVariants.{Stopped}
-use Rattle.evaluation.specs.Values.{Value, number, closure, reference, Environment, empty, State, Outcome, done, stopped, provided, one_step}
+use Rattle.evaluation.specs.Values.{number, closure, reference, Environment, empty, State, Outcome, done, stopped, provided, one_step}
 use Rattle.evaluation.specs.Evaluation.{eval, most_pending}
 use Rattle.evaluation.specs.Runs.{run, report, opening}
 use Rattle.evaluation.specs.Fuel.{steps_of, Spent, Counted, RunsCounted, RunsSettle}

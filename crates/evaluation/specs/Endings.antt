@@ -1,6 +1,5 @@
 -- The numbers of the endings.
 use Rattle.std.specs.Prelude.{ℕ}
-use Rattle.evaluation.specs.declared.ending.Stop.{Stop}
 use Rattle.evaluation.specs.declared.ending.Stop.TheVariants.{FuelSpent, PendingFull, BindingsFull, CellsFull, Stuck}
 use Rattle.evaluation.specs.declared.ending.Ending.{Ending}
 use Rattle.evaluation.specs.declared.ending.Ending.TheVariants.{Number, Stopped, NoNumber}

@@ -1,13 +1,13 @@
 -- The evaluation of a node: a recursion on the places left for pending nodes. A node is pending from
 -- its start to its end, so how deep evaluation is nested is how many nodes are pending.
-use Rattle.std.specs.Prelude.{ℕ, zero, suc, ◌+◌, Bool, true, false, cond, List, [], ◌∷◌, ◌++◌, length, Some, None, Option, ◌==◌, nat_lt, slice_set}
+use Rattle.std.specs.Prelude.{ℕ, zero, suc, ◌+◌, cond, [], ◌∷◌, ◌++◌, length, Some, None, Option, ◌==◌, nat_lt, slice_set}
 use Rattle.std.specs.List.{slice_get}
 use Rattle.number.specs.NumberKind.{NumberKind}
 use Rattle.sheet.specs.declared.decoded.Kind.{Kind}
 use Rattle.sheet.specs.declared.decoded.Kind.TheVariants.{Literal, Variable, Lambda, Application, New, Channel, Read, Write, Choice, Operation, Unknown}
-use Rattle.sheet.specs.Sheet.{Sheet, last_part, part_before, part}
+use Rattle.sheet.specs.Sheet.{Sheet, last_part, part}
 use Rattle.evaluation.specs.declared.ending.Stop.TheVariants.{FuelSpent, PendingFull, BindingsFull, CellsFull, Stuck}
-use Rattle.evaluation.specs.Values.{Value, number, closure, reference, Environment, empty, bind, Cell, State, Outcome, done, stopped, Evaluator, lookup, and_then, provided, with_cells, one_step, one_binding}
+use Rattle.evaluation.specs.Values.{Value, number, closure, reference, Environment, bind, Cell, State, Outcome, done, stopped, Evaluator, lookup, and_then, provided, with_cells, one_step, one_binding}
 
 -- how many nodes may be pending, how many bindings a run may make, and how many fresh cells
 abbrev pub most_pending : ℕ

@@ -1,11 +1,11 @@
 -- The evaluation over flat state ends as the evaluation does: same ending, node and steps, and a word that carries the value.
-use Rattle.std.proofs.Common.{◌≡◌, ℕ, zero, suc, ◌+◌, ◌-◌, ◌<◌, ◌≤◌, Bool, true, false, cond, eqb, ltb, List, [], ◌∷◌, ◌++◌, length, set, Some, None, Option, sym, refl, ap, ◌∙◌, subst, ap₂, arith}
+use Rattle.std.proofs.Common.{◌≡◌, ℕ, zero, suc, ◌+◌, ◌<◌, ◌≤◌, Bool, true, false, cond, eqb, ltb, List, [], ◌∷◌, ◌++◌, length, Some, None, Option, sym, refl, ap, ◌∙◌, subst, ap₂, arith}
 use Rattle.std.specs.List.{slice_get}
 use Rattle.number.specs.NumberKind.{NumberKind}
 use Rattle.number.specs.Millimetre.{clamp}
 use Rattle.sheet.specs.declared.decoded.Kind.{Kind}
 use Rattle.sheet.specs.declared.decoded.Kind.TheVariants.{Literal, Variable, Lambda, Application, New, Channel, Read, Write, Choice, Operation, Unknown}
-use Rattle.evaluation.specs.declared.ending.Stop.TheVariants.{FuelSpent, PendingFull, BindingsFull, CellsFull, Stuck}
+use Rattle.evaluation.specs.declared.ending.Stop.TheVariants.{FuelSpent, PendingFull, BindingsFull, CellsFull}
 use Rattle.sheet.specs.Sheet.{Sheet, last_part, part}
 use Rattle.evaluation.specs.Values.{Value, number, closure, reference, Environment, empty, bind, Cell, State, Outcome, done, stopped, Evaluator, lookup, and_then, provided, with_cells, one_step, one_binding}
 use Rattle.evaluation.specs.Evaluation.{most_bindings, most_fresh, operation, found, loaded, load, stored, store, apply, create, choose, operate, by_kind, eval}

@@ -1,5 +1,5 @@
 -- What a trial that is not refused was answered.
-use Rattle.std.proofs.Common.{◌≡◌, ℕ, ◌≤◌, Bool, true, false, cond, ◌&&◌, ltb, leb, Ok, Err, Result, sym, refl, arith}
+use Rattle.std.proofs.Common.{◌≡◌, ℕ, ◌≤◌, Bool, true, false, cond, ltb, Ok, Err, Result, refl, arith}
 use Rattle.std.proofs.lemmas.Bool.Decides.{nat_tests}
 use Rattle.sheet.specs.Sheet.{Sheet}
 use Rattle.evaluation.specs.Evaluation.{most_pending, most_bindings}

@@ -5,7 +5,7 @@ use Rattle.sheet.specs.declared.row.Row.{Row}
 use Rattle.sheet.specs.Sheet.{view}
 use Rattle.evaluation.specs.declared.ending.Stop.TheVariants.{FuelSpent, Stuck}
 use Rattle.evaluation.specs.declared.ending.Ending.TheVariants.{Number, Stopped}
-use Rattle.evaluation.specs.Runs.{Report, run, run_report, numbers_after}
+use Rattle.evaluation.specs.Runs.{run, run_report, numbers_after}
 use Rattle.evaluator.specs.Trials.{trial_answer}
 
 -- a row: the code of its letter, and its numbers

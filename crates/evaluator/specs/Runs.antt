@@ -1,5 +1,5 @@
 -- What the code holds before, in and after a run, with each number by its value.
-use Rattle.std.specs.Prelude.{ℕ, zero, suc, ◌+◌, true, false, List, [], ◌∷◌}
+use Rattle.std.specs.Prelude.{ℕ, zero, suc, ◌+◌, List, [], ◌∷◌}
 use Rattle.sheet.specs.Sheet.{Sheet}
 use Rattle.evaluation.specs.declared.ending.Ending.TheVariants as ending
 use Rattle.evaluation.specs.Evaluation.{most_bindings, most_fresh}

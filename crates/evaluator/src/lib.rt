@@ -1,4 +1,6 @@
 //! Runs and trials of the entries of a sheet, over work areas that the caller lends.
+#![tactic(auto)]
+
 pub mod examples;
 pub mod refusal;
 pub mod report;

@@ -1,5 +1,7 @@
 //! What the rules promise of the runs of an admitted sheet: theorems, each on a function's contract.
 //! They hold for every kind of numbers and every relation between labels, transitive or not.
+#![tactic(auto)]
+
 ghost use Rattle.guarantees.specs.Promises.{OfAdmitted, Soundness, Confinement, TwoRuns, Parties};
 ghost use Rattle.guarantees.specs.Derivations.{EntriesDerived, DerivedPasses};
 

@@ -1,8 +1,7 @@
 -- What the rest of a run makes of where it stands; each step of the machine leaves that as it is.
-use Rattle.std.proofs.Common.{◌≡◌, ℕ, zero, suc, ◌+◌, ◌-◌, ◌*◌, ◌<◌, ◌≤◌, Bool, true, false, cond, eqb, ltb, List, [], ◌∷◌, ◌++◌, length, set, Some, None, Option, sym, refl, ap, ◌∙◌, arith}
+use Rattle.std.proofs.Common.{◌≡◌, ℕ, zero, suc, ◌+◌, ◌-◌, ◌<◌, ◌≤◌, Bool, true, false, cond, eqb, ltb, List, [], ◌∷◌, ◌++◌, length, Some, None, Option, sym, refl, ap, ◌∙◌, arith}
 use Rattle.std.specs.List.{slice_get}
 use Rattle.number.specs.NumberKind.{NumberKind}
-use Rattle.number.specs.Millimetre.{clamp}
 use Rattle.sheet.specs.declared.decoded.Kind.{Kind}
 use Rattle.sheet.specs.declared.decoded.Kind.TheVariants.{Literal, Variable, Lambda, Application, New, Channel, Read, Write, Choice, Operation, Unknown}
 use Rattle.machine.specs.declared.values.Value.{Value}
@@ -15,9 +14,9 @@ use Rattle.machine.specs.declared.values.Stage.TheVariants.{Chooses, Creates, Re
 use Rattle.machine.specs.declared.values.Next.{Next}
 use Rattle.machine.specs.declared.values.Next.TheVariants.{Start, Return, Halt}
 use Rattle.evaluation.specs.declared.ending.Stop.{Stop}
-use Rattle.evaluation.specs.declared.ending.Stop.TheVariants.{FuelSpent, PendingFull, BindingsFull, CellsFull, Stuck}
+use Rattle.evaluation.specs.declared.ending.Stop.TheVariants.{FuelSpent, PendingFull, BindingsFull, CellsFull}
 use Rattle.sheet.specs.Sheet.{Sheet, last_part, part}
-use Rattle.machine.specs.Flat.{Limits, FlatState, FlatOutcome, flat_done, flat_stopped, FlatEvaluator, seek, flat_then, flat_provided, with_cells, one_step, one_more, flat_found, flat_loaded, flat_load, flat_stored, flat_store, flat_apply, flat_create, flat_choose, flat_operate, flat_by_kind, flat_eval}
+use Rattle.machine.specs.Flat.{Limits, FlatState, FlatOutcome, flat_done, flat_stopped, FlatEvaluator, seek, flat_then, flat_provided, one_step, flat_found, flat_loaded, flat_load, flat_stored, flat_store, flat_apply, flat_create, flat_choose, flat_operate, flat_by_kind, flat_eval}
 use Rattle.machine.specs.Seen.{Machine}
 use Rattle.machine.specs.Steps.{at, framed, pends, gives, halts, looks, reads_at, reads, writes_at, writes, applies, creates, chooses, combines, starts, resumes}
 use Rattle.machine.proofs.Lists.{length_top}

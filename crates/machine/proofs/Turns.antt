@@ -1,5 +1,5 @@
 -- A turn of the loop, in what the program holds.
-use Rattle.std.proofs.Common.{◌≡◌, ℕ, zero, suc, ◌+◌, ◌-◌, ◌<◌, ◌≤◌, Bool, true, false, cond, eqb, ltb, leb, List, [], ◌∷◌, ◌++◌, length, Some, None, sym, refl, ap, ◌∙◌, subst, ⊎_elim, add-one, arith}
+use Rattle.std.proofs.Common.{◌≡◌, ℕ, suc, ◌+◌, ◌<◌, ◌≤◌, Bool, true, false, eqb, leb, List, [], ◌∷◌, ◌++◌, length, Some, None, sym, ap, ◌∙◌, subst, ⊎_elim, add-one, arith}
 use Rattle.std.proofs.lemmas.Bool.{eq-eqb, ne_eqb, cases_Bool, eqb-true, eqb-false, leb-true, leb-false}
 use Rattle.number.specs.NumberKind.{NumberKind}
 use Rattle.machine.specs.declared.values.Value.{Value}
@@ -9,7 +9,7 @@ use Rattle.machine.specs.declared.values.Frame.{Frame}
 use Rattle.machine.specs.declared.values.Next.{Next}
 use Rattle.machine.specs.declared.values.Next.TheVariants.{Start, Return, Halt}
 use Rattle.evaluation.specs.declared.ending.Stop.{Stop}
-use Rattle.evaluation.specs.declared.ending.Stop.TheVariants.{FuelSpent, PendingFull, BindingsFull, CellsFull, Stuck}
+use Rattle.evaluation.specs.declared.ending.Stop.TheVariants.{FuelSpent, PendingFull}
 use Rattle.sheet.specs.Sheet.{Sheet}
 use Rattle.machine.specs.Flat.{Limits, FlatOutcome, flat_done, flat_stopped, flat_eval}
 use Rattle.machine.specs.Seen.{Machine, value, stage, frame, next, frames, bindings, cells, machine, flat}

@@ -1,5 +1,5 @@
 -- Each turn of the machine makes it lighter: so it ends.
-use Rattle.std.proofs.Common.{◌≡◌, ℕ, zero, suc, ◌+◌, ◌-◌, ◌*◌, ◌<◌, ◌≤◌, Bool, true, false, cond, ltb, List, [], ◌∷◌, ◌++◌, length, Some, None, Option, sym, refl, ap, ◌∙◌, arith}
+use Rattle.std.proofs.Common.{◌≡◌, ℕ, suc, ◌+◌, ◌-◌, ◌*◌, ◌<◌, ◌≤◌, Bool, true, false, cond, ltb, List, [], ◌∷◌, ◌++◌, length, Some, None, Option, arith}
 use Rattle.std.specs.List.{slice_get}
 use Rattle.number.specs.NumberKind.{NumberKind}
 use Rattle.number.specs.Millimetre.{clamp}
@@ -15,7 +15,7 @@ use Rattle.machine.specs.declared.values.Stage.TheVariants.{Chooses, Creates, Re
 use Rattle.machine.specs.declared.values.Next.{Next}
 use Rattle.machine.specs.declared.values.Next.TheVariants.{Start, Return, Halt}
 use Rattle.evaluation.specs.declared.ending.Stop.{Stop}
-use Rattle.evaluation.specs.declared.ending.Stop.TheVariants.{FuelSpent, PendingFull, BindingsFull, CellsFull, Stuck}
+use Rattle.evaluation.specs.declared.ending.Stop.TheVariants.{BindingsFull, CellsFull, Stuck}
 use Rattle.sheet.specs.Sheet.{Sheet, last_part, part}
 use Rattle.machine.specs.Flat.{Limits, seek}
 use Rattle.machine.specs.Seen.{Machine}

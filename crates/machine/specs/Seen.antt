@@ -1,5 +1,5 @@
 -- What the program holds, with each number by its value.
-use Rattle.std.specs.Prelude.{ℕ, List, [], ◌∷◌, map, Some, None, Option}
+use Rattle.std.specs.Prelude.{ℕ, List, map, Some, None, Option}
 use Rattle.machine.specs.declared.values.Value.{Value}
 use Rattle.machine.specs.declared.values.Value.TheVariants.{Number, Closure, Reference}
 use Rattle.machine.specs.declared.values.Binding.{Binding}

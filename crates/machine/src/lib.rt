@@ -1,4 +1,6 @@
 //! The evaluation of a node as a loop over three bounded stacks: pending nodes, bindings and cells.
+#![tactic(auto)]
+
 pub mod runs;
 pub mod steps;
 pub mod values;

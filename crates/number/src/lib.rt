@@ -2,6 +2,8 @@
 //!
 //! A kind is eight functions. What they answer is told by a record over the values that numbers mean,
 //! so a run is the same for every kind, and two numbers are the same when their values are.
+#![tactic(auto)]
+
 ghost use Rattle.std.specs.Prelude.{◌≡◌};
 ghost use Rattle.number.specs.NumberKind.{NumberKind};
 

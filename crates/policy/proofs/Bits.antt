@@ -1,5 +1,5 @@
 -- Bits of a number, and what setting one of them changes.
-use Rattle.std.proofs.Common.{◌≡◌, ℕ, zero, suc, ◌+◌, ◌-◌, ◌*◌, ◌/◌, ◌%◌, ◌^◌, ◌<◌, max, false, ◌&&◌, ◌||◌, eqb, List, length, get_or, set, replicate, sym, refl, ap, ◌∙◌, ⊎_elim, arith}
+use Rattle.std.proofs.Common.{◌≡◌, ℕ, zero, suc, ◌+◌, ◌-◌, ◌*◌, ◌/◌, ◌%◌, ◌^◌, ◌<◌, max, false, ◌&&◌, ◌||◌, eqb, List, length, get_or, set, replicate, refl, ap, ◌∙◌, ⊎_elim, arith}
 use Rattle.policy.specs.PairSets.{bit}
 use Rattle.std.proofs.lemmas.Nat.{mod_below, one_shl, pow-add, pow_below, shl-shr}
 use Rattle.std.proofs.lemmas.List.{get_or-set_other, get_or-set_same}

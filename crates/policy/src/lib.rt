@@ -1,4 +1,6 @@
 //! Flow policies: which label's data may reach which label.
+#![tactic(auto)]
+
 ghost use Rattle.std.specs.Prelude.{◌≡◌, ℕ, ◌<◌, ◌≤◌, Bool, true, false};
 ghost use Rattle.policy.specs.Refusals.{number_of};
 

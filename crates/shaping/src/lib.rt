@@ -1,4 +1,6 @@
 //! Shaping: the questions 21 to 27 that a draft is asked, and the sheet that they all answer yes.
+#![tactic(auto)]
+
 pub mod counts;
 pub mod entries;
 pub mod guarantees;

@@ -1,5 +1,7 @@
 //! A sheet of formulas: its rows as they are handed in, the sheet read off them, sets, and the one
 //! loop that asks a question of each type, site, node or entry.
+#![tactic(auto)]
+
 pub mod decode;
 pub mod decoded;
 pub mod property;

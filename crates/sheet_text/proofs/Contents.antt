@@ -1,7 +1,7 @@
 -- A field with a quotation mark in it is no letter and no number, so its content need not be made.
-use Rattle.std.proofs.Common.{◌≡◌, ℕ, ◌+◌, ◌-◌, ◌*◌, Bool, true, false, cond, not, ◌&&◌, eqb, leb, List, [], ◌∷◌, length, ℤ, pos, neg_ℤ, Some, None, Option, sym, refl, ap, ◌∙◌, arith}
+use Rattle.std.proofs.Common.{◌≡◌, ℕ, ◌+◌, ◌-◌, ◌*◌, Bool, true, false, cond, ◌&&◌, eqb, leb, List, [], ◌∷◌, length, None, Option, sym, refl, ap, ◌∙◌, arith}
 use Rattle.std.proofs.lemmas.Bool.Decides.{nat_tests}
-use Rattle.sheet_text.specs.Fields.{content, letter, is_letter, digits_after, magnitude, at_most, number}
+use Rattle.sheet_text.specs.Fields.{content, letter, digits_after, magnitude, number}
 
 -- no byte is a quotation mark
 abbrev unquoted : List ℕ → Bool

@@ -1,9 +1,9 @@
 -- Filling a table place by place.
-use Rattle.std.proofs.Common.{◌≡◌, ℕ, ◌+◌, ◌<◌, ◌≤◌, List, [], ◌∷◌, ◌++◌, length, get_or, take, drop, set, sym, refl, ap, ◌∙◌, ap₂, append_assoc, append-nil, arith}
+use Rattle.std.proofs.Common.{◌≡◌, ℕ, ◌+◌, ◌<◌, ◌≤◌, List, [], ◌∷◌, ◌++◌, length, take, drop, set, sym, refl, ap, ◌∙◌, ap₂, append_assoc, append-nil, arith}
 use Rattle.std.proofs.lemmas.List.{drop_more, drop_all, take_all, take-append-drop, take_more_set, drop-set-lt}
 use Rattle.sheet.specs.declared.row.Row.{Row}
 use Rattle.sheet_text.specs.declared.line.Line.{Line}
-use Rattle.sheet_text.specs.declared.reader.NextRow.TheVariants.{NoRow, Misquoted, Fields}
+use Rattle.sheet_text.specs.declared.reader.NextRow.TheVariants.{Fields}
 use Rattle.sheet_text.specs.Grammar.{Rows, end, wrong, ◌then◌}
 use Rattle.sheet_text.specs.Questions.{row_of, filled}
 use Rattle.sheet_text.specs.Rows.{blank, gathered, row_in, next, after}

@@ -1,10 +1,10 @@
 -- What a row's fields, taken one by one, come to.
-use Rattle.std.proofs.Common.{◌≡◌, ℕ, ◌+◌, ◌-◌, ◌<◌, ◌≤◌, min, Bool, true, false, cond, ◌&&◌, eqb, leb, List, [], ◌∷◌, length, get_or, set, ℤ, pos, is_some, Option, unwrap_or, sym, refl, ap, ◌∙◌, ap₂, arith}
+use Rattle.std.proofs.Common.{◌≡◌, ℕ, ◌+◌, ◌-◌, ◌≤◌, min, Bool, true, false, cond, ◌&&◌, eqb, leb, List, [], ◌∷◌, length, get_or, set, ℤ, pos, is_some, Option, unwrap_or, sym, refl, ap, ◌∙◌, ap₂, arith}
 use Rattle.std.proofs.lemmas.Bool.Decides.{nat_tests}
 use Rattle.sheet.specs.declared.row.Row.{Row}
 use Rattle.sheet_text.specs.declared.line.Line.{Line}
-use Rattle.sheet_text.specs.Fields.{content, letter, number}
-use Rattle.sheet_text.specs.Questions.{six, lettered, all_numbers, numbered, number_at, row_of}
+use Rattle.sheet_text.specs.Fields.{content, number}
+use Rattle.sheet_text.specs.Questions.{six, lettered, all_numbers, numbered, row_of}
 use Rattle.sheet_text.specs.Rows.{blank, taken, gathered, row_in}
 use Rattle.sheet_text.proofs.Contents.{letter_content, number_content}
 

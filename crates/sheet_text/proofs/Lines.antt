@@ -4,12 +4,12 @@ use native.Mathlib.Decide.{dec_lt}
 use Rattle.std.proofs.lemmas.List.{drop_all, drop-drop}
 use Rattle.std.proofs.lemmas.Bool.Decides.{nat_tests}
 use Rattle.sheet_text.specs.declared.line.Line.{Line}
-use Rattle.sheet_text.specs.declared.reader.NextRow.TheVariants.{NoRow, Misquoted, Fields}
-use Rattle.sheet_text.specs.Symbols.{symbols, newline}
+use Rattle.sheet_text.specs.declared.reader.NextRow.TheVariants.{Misquoted}
+use Rattle.sheet_text.specs.Symbols.{symbols}
 use Rattle.sheet_text.specs.Grammar.{Rows, end, wrong, ◌then◌, front, field, rows}
 use Rattle.sheet_text.specs.declared.scan.Step.{Step}
-use Rattle.sheet_text.specs.Lines.{begins, raw, continued, goes_on, Stepped}
-use Rattle.sheet_text.specs.Rows.{taken, gathered, next_after, after}
+use Rattle.sheet_text.specs.Lines.{begins, raw, continued, Stepped}
+use Rattle.sheet_text.specs.Rows.{taken, next_after, after}
 use Rattle.sheet_text.proofs.Scanning.{rest_is, symbols_plain, symbols_newline}
 
 -- a field in front of a row is taken before the row's own

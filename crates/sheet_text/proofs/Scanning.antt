@@ -1,13 +1,13 @@
 -- How the scans of a field follow the grammar.
-use Rattle.std.proofs.Common.{◌≡◌, ℕ, ◌+◌, ◌-◌, ◌<◌, ◌≤◌, Bool, true, false, cond, ◌&&◌, ◌||◌, eqb, List, [], ◌∷◌, ◌++◌, length, get_or, take, drop, sym, refl, ap, ◌∙◌, ap₂, append_assoc, le_refl, arith}
+use Rattle.std.proofs.Common.{◌≡◌, ℕ, ◌+◌, ◌-◌, ◌<◌, Bool, true, false, cond, ◌&&◌, eqb, List, [], ◌∷◌, ◌++◌, length, take, drop, sym, refl, ap, ◌∙◌, ap₂, append_assoc, le_refl, arith}
 use native.Mathlib.Decide.{dec_lt}
 use Rattle.std.proofs.lemmas.List.{drop_more, drop_all, take_more}
 use Rattle.std.proofs.lemmas.Slice.{between_to_end}
 use Rattle.std.proofs.lemmas.Bool.Decides.{nat_tests}
 use Rattle.sheet_text.specs.declared.scan.Inside.{Inside}
 use Rattle.sheet_text.specs.declared.scan.Inside.TheVariants.{Nothing, Doubled, Closing, Other}
-use Rattle.sheet_text.specs.Symbols.{Symbol, quote, comma, newline, byte, symbol, symbols, line_end}
-use Rattle.sheet_text.specs.Grammar.{Rows, end, wrong, ◌then◌, field, bare, quoted, closed}
+use Rattle.sheet_text.specs.Symbols.{Symbol, newline, symbol, symbols, line_end}
+use Rattle.sheet_text.specs.Grammar.{wrong, bare, quoted, closed}
 use Rattle.sheet_text.specs.Lines.{begins, ends_bare, inside}
 
 -- what `&xs[n..]` holds

@@ -1,5 +1,5 @@
 -- One pass over the rows asks what the questions ask one after the other.
-use Rattle.std.proofs.Common.{◌≡◌, ℕ, suc, ◌+◌, Bool, true, false, cond, eqb, List, [], ◌∷◌, is_some, Some, None, Ok, Err, Option, Result, sym, refl, ap, ◌∙◌, ap₂, add-zero, zero-add, arith}
+use Rattle.std.proofs.Common.{◌≡◌, ℕ, suc, ◌+◌, Bool, true, false, cond, List, Some, None, Ok, Err, Option, Result, sym, refl, ap, ◌∙◌, add-zero, zero-add, arith}
 use Rattle.sheet_text.specs.declared.line.Line.{Line}
 use Rattle.sheet_text.specs.declared.read.Faults.{Faults}
 use Rattle.sheet_text.specs.declared.reader.NextRow.TheVariants.{NoRow, Misquoted, Fields}
@@ -7,7 +7,7 @@ use Rattle.sheet_text.specs.declared.refusal.Question.TheVariants.{Quoting, Fiel
 use Rattle.sheet_text.specs.declared.refusal.Refusal.{Refusal}
 use Rattle.sheet_text.specs.Grammar.{Rows, end, wrong, ◌then◌}
 use Rattle.sheet_text.specs.Questions.{six, lettered, numbered, further, wrong_row, first_no, count, ask, judged}
-use Rattle.sheet_text.specs.Rows.{blank, gathered, next, next_after, after, noted, no_faults, faults_with, faults_verdict}
+use Rattle.sheet_text.specs.Rows.{blank, gathered, next, after, noted, no_faults, faults_with, faults_verdict}
 use Rattle.sheet_text.proofs.Gathered.{six_gathered, lettered_gathered, numbered_gathered}
 
 -- a row counted on from n

@@ -1,12 +1,12 @@
 -- Rows that were written are read back.
-use Rattle.std.proofs.Common.{◌≡◌, ℕ, suc, ◌+◌, ◌<◌, ◌≤◌, Bool, true, false, cond, ◌&&◌, ◌||◌, eqb, leb, List, [], ◌∷◌, ◌++◌, map, length, get_or, drop, ℤ, pos, Some, None, Option, sym, refl, ap, ◌∙◌, subst, ap₂, append_assoc, append-nil, arith, length-append}
+use Rattle.std.proofs.Common.{◌≡◌, ℕ, ◌<◌, Bool, true, false, eqb, List, [], ◌∷◌, ◌++◌, map, length, drop, Some, sym, refl, ap, ◌∙◌, subst, append_assoc, append-nil, arith, length-append}
 use Rattle.std.proofs.lemmas.Bool.Decides.{nat_tests}
 use Rattle.std.specs.Fmt.{signed_decimal}
 use Rattle.sheet_text.specs.declared.scan.Mark.{Mark}
 use Rattle.sheet_text.specs.declared.scan.Mark.TheVariants.{Comma, RowEnd}
 use Rattle.sheet_text.specs.Symbols.{Symbol, symbols}
-use Rattle.sheet_text.specs.Grammar.{Rows, end, wrong, ◌then◌, front, field, bare, quoted, closed, rows}
-use Rattle.sheet_text.specs.Lines.{begins, ends_bare, mark, continued}
+use Rattle.sheet_text.specs.Grammar.{Rows, end, ◌then◌, front, field, bare, quoted, closed, rows}
+use Rattle.sheet_text.specs.Lines.{ends_bare, mark, continued}
 use Rattle.sheet_text.specs.Fields.{is_letter}
 use Rattle.sheet_text.specs.Writing.{Written, field_text, joined, row_text, text, Writable, AllWritable}
 use Rattle.sheet_text.proofs.Numerals.{tail_is}

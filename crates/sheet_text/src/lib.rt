@@ -1,4 +1,6 @@
 //! Sheets as text: rows of six fields, as RFC 4180 has them.
+#![tactic(auto)]
+
 mod field;
 pub mod laws;
 mod line;

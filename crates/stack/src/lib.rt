@@ -1,4 +1,6 @@
 //! A bounded stack over a lent slice, for elements of any type.
+#![tactic(auto)]
+
 ghost use Rattle.std.specs.Prelude.{◌≤◌, length};
 
 pub mod methods;

@@ -1,5 +1,5 @@
 -- The tests of questions 34 and 35 say what the type rule and the control rule are.
-use Rattle.std.proofs.Common.{◌≡◌, ℕ, ◌-◌, ◌<◌, Bool, true, false, not, ◌||◌, refl, arith}
+use Rattle.std.proofs.Common.{◌≡◌, ℕ, ◌<◌, Bool, true, false, not, ◌||◌, refl, arith}
 use lib.Bits.{bit_or}
 use Rattle.std.proofs.lemmas.Bool.{and_parts, and_from, eq-eqb}
 use Rattle.sheet.specs.declared.decoded.Kind.{Kind}

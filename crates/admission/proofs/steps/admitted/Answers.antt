@@ -4,15 +4,14 @@ use Rattle.admission.proofs.steps.admitted.Goals as goal
 pub invariant_of-result : goal.invariant_of-result
 invariant_of-result g c =
     let p = c.args.policy.now in
-    let law = g.met.P.Policy in (
-      c.requires.shaped,
-      (
-        ∣ (
-          g.P.Policy.size p,
-          g.P.Policy.flows p,
-          record { counted = law.counted p; reflexive = law.reflexive p; sources = law.sources p; targets = law.targets p },
-          c.requires.admitted,
-        ) ∣₁,
-        tt,
-      ),
-    )
+    let law = g.met.P.Policy in
+    record {
+      shaped = c.requires.shaped;
+      admitted =
+          ∣ (
+            g.P.Policy.size p,
+            g.P.Policy.flows p,
+            record { counted = law.counted p; reflexive = law.reflexive p; sources = law.sources p; targets = law.targets p },
+            c.requires.admitted,
+          ) ∣₁;
+    }

@@ -1,4 +1,4 @@
-use Rattle.std.proofs.Common.{◌≡◌, ℕ, ◌≤◌, length, take, sym, refl, ap, ◌∙◌, arith, take_all}
+use Rattle.std.proofs.Common.{◌≤◌, length, ap, ◌∙◌, arith, take_all}
 use Rattle.stack.specs.Live.{live, room}
 use Rattle.evaluator.specs.Runs.{opened}
 use Rattle.evaluator.proofs.Loading.{loads}

@@ -1,4 +1,4 @@
-use Rattle.std.proofs.Common.{◌≡◌, ℕ, ◌+◌, ◌-◌, ◌≤◌, map, length, ap, ◌∙◌, arith, length-take-le}
+use Rattle.std.proofs.Common.{◌≡◌, ◌+◌, ◌-◌, ◌≤◌, map, length, ap, ◌∙◌, arith, length-take-le}
 use Rattle.stack.specs.Live.{live, room}
 use Rattle.sheet.specs.declared.decoded.EntryRow.{EntryRow}
 use Rattle.sheet.specs.Sheet.{view}
@@ -23,8 +23,8 @@ returns g c =
     c.load.ensures.places ∙ c.new-cells.ensures.places ∙ length-take-le _ _ big ∙ all in
     let ran =
     c.run-outcome.ensures
-    ∙ begun M (view rs) n c.args.fuel c.args.entry (room c.new-bindings.result) (room c.load.new.cells) (room c.new-frames.result) c.entry-at-root.result.root
-    (live c.new-bindings.result) (live c.load.new.cells) ks bound held pending (ap (λ (x : EntryRow). x.root) c.entry-at-root.ensures) c.new-bindings.ensures.held c.load.ensures.held in
+    ∙ begun M (view rs) n c.args.fuel c.args.entry (room c.new-bindings.result) (room c.load.new.cells) (room c.new-frames.result) c.entry_at-root.result.root
+    (live c.new-bindings.result) (live c.load.new.cells) ks bound held pending (ap (λ (x : EntryRow). x.root) c.entry_at-root.ensures) c.new-bindings.ensures.held c.load.ensures.held in
     record {
       answer =
           c.conclude.ensures

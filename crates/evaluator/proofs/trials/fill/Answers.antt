@@ -1,4 +1,4 @@
-use Rattle.std.proofs.Common.{◌≡◌, ℕ, ◌≤◌, sym, refl, ap, ◌∙◌, arith}
+use Rattle.std.proofs.Common.{◌≡◌, ℕ, ◌≤◌, ap, ◌∙◌, arith}
 use Rattle.stack.specs.Live.{live, room}
 use Rattle.evaluator.specs.Runs.{opened, repeated}
 use Rattle.evaluator.proofs.Loading.{fills}

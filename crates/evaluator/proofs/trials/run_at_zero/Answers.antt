@@ -15,7 +15,7 @@ returns g c =
     let M = g.K.Number.kind in
     let n = g.K.Number.value in
     let rs = c.args.table.now.rows.now in
-    let ks = repeated c.args.table.now.sites c.from-whole.result in
+    let ks = repeated c.args.table.now.sites c.from_whole.result in
     let pending : room c.new-frames.result ≡ most_pending = c.new-frames.ensures.places ∙ length-take-le _ _ c.requires.1.0 in
     let bound : room c.new-bindings.result ≡ most_bindings = c.new-bindings.ensures.places ∙ length-take-le _ _ c.requires.1.1.0 in
     let few = c.requires.1.1.1 in
@@ -26,9 +26,9 @@ returns g c =
     c.fill.ensures.places ∙ c.new-cells.ensures.places ∙ length-take-le _ _ big ∙ all in
     let ran =
     c.run.ensures
-    ∙ begun M (view rs) n c.args.fuel c.args.entry (room c.new-bindings.result) (room c.fill.new.cells) (room c.new-frames.result) c.entry-at-root.result.root
-    (live c.new-bindings.result) (live c.fill.new.cells) ks bound held pending (ap (λ (x : EntryRow). x.root) c.entry-at-root.ensures) c.new-bindings.ensures.held c.fill.ensures.held in
+    ∙ begun M (view rs) n c.args.fuel c.args.entry (room c.new-bindings.result) (room c.fill.new.cells) (room c.new-frames.result) c.entry_at-root.result.root
+    (live c.new-bindings.result) (live c.fill.new.cells) ks bound held pending (ap (λ (x : EntryRow). x.root) c.entry_at-root.ensures) c.new-bindings.ensures.held c.fill.ensures.held in
     c.conclude.ensures
     ∙ tells_as_defined M (view rs) n (literals_fit rs c.requires.0) c.args.fuel c.args.entry ks c.run.result (live c.run.new.bindings) (live c.run.new.cells) ran
     ∙ ap (run_report M (view rs) c.args.fuel c.args.entry)
-    (ap (λ (x : ℕ). map n (repeated x c.from-whole.result)) sites ∙ map_repeated n (view rs).sites c.from-whole.result (M.whole (pos 0)) c.from-whole.ensures)
+    (ap (λ (x : ℕ). map n (repeated x c.from_whole.result)) sites ∙ map_repeated n (view rs).sites c.from_whole.result (M.whole (pos 0)) c.from_whole.ensures)

@@ -8,8 +8,8 @@ use Rattle.evaluator.proofs.Shaped.{few_sites}
 use Rattle.evaluator.proofs.Verdicts.{areas_suffice}
 use Rattle.evaluator.proofs.trials.trial.Goals as goal
 
-pub run-at-zero-requires : goal.run-at-zero-requires
-run-at-zero-requires g c =
+pub run_at_zero-requires : goal.run_at_zero-requires
+run_at_zero-requires g c =
     let rs : List Row = c.new-table.result.rows.now in
     let a = areas_suffice (view rs) c.args.entry c.args.fuel (length c.args.pending.now) (length c.args.bound.now) (length c.args.held.now) c.in-Ok.ensures in
     let s : passed (shape_verdict rs) ≡ true = ap (λ (r : List Row). passed (shape_verdict r)) c.new-table.ensures ∙ c.args.sheet.now.shaped in

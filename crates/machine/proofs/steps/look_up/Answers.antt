@@ -1,4 +1,4 @@
-use Rattle.std.proofs.Common.{◌≡◌, ◌<◌, sym, refl, ◌∙◌, arith}
+use Rattle.std.proofs.Common.{◌<◌, refl, ◌∙◌, arith}
 use Rattle.stack.specs.Live.{live}
 use Rattle.machine.specs.Seen.{bindings}
 use Rattle.machine.proofs.Acts.{seek_empty, seek_spent, seek_past, seek_here, seek_on}

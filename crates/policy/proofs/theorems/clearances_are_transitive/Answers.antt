@@ -1,4 +1,4 @@
-use Rattle.std.proofs.Common.{◌≡◌, ℕ, ◌/◌, ◌%◌, refl, arith}
+use Rattle.std.proofs.Common.{◌≡◌, ℕ, ◌/◌, refl, arith}
 use Rattle.policy.proofs.theorems.clearances_are_transitive.Goals as goal
 use Rattle.policy.specs.Clearances.{compartments_of}
 use Rattle.std.proofs.lemmas.Bool.Decides.{nat_tests}

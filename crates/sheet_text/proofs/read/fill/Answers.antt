@@ -1,4 +1,4 @@
-use Rattle.std.proofs.Common.{◌≡◌, ◌+◌, ◌<◌, ◌≤◌, ◌++◌, length, take, drop, set, sym, ap, ◌∙◌, arith}
+use Rattle.std.proofs.Common.{◌+◌, ◌<◌, ◌≤◌, ◌++◌, length, take, drop, set, sym, ap, ◌∙◌, arith}
 use Rattle.sheet_text.specs.Questions.{filled}
 use Rattle.sheet_text.specs.Rows.{rows_from, row_in}
 use Rattle.sheet_text.proofs.Filled.{fill_row, fill_stop, fill_all}

@@ -1,4 +1,4 @@
-use Rattle.std.proofs.Common.{◌≡◌, ◌+◌, Err, sym, ap, ◌∙◌, add-zero, arith}
+use Rattle.std.proofs.Common.{◌+◌, Err, sym, ap, ◌∙◌, add-zero, arith}
 use Rattle.sheet_text.specs.declared.refusal.Question.TheVariants.{Quoting}
 use Rattle.sheet_text.specs.Questions.{count}
 use Rattle.sheet_text.specs.Rows.{rows_from, faults_with, faults_verdict}

@@ -1,4 +1,4 @@
-use Rattle.std.proofs.Common.{◌≡◌, ◌+◌, ◌-◌, [], take, drop, sym, refl, ap, ◌∙◌, arith}
+use Rattle.std.proofs.Common.{◌≡◌, ◌+◌, ◌-◌, [], take, drop, refl, ap, ◌∙◌, arith}
 use Rattle.sheet_text.specs.Symbols.{symbols}
 use Rattle.sheet_text.specs.Grammar.{bare}
 use Rattle.sheet_text.specs.Lines.{mark, continued}

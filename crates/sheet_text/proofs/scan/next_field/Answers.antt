@@ -1,4 +1,4 @@
-use Rattle.std.proofs.Common.{◌≡◌, ◌+◌, ◌-◌, ◌<◌, ◌≤◌, [], length, get_or, take, drop, sym, refl, ap, ◌∙◌, subst, arith, rules}
+use Rattle.std.proofs.Common.{◌≡◌, ◌<◌, length, get_or, sym, ap, ◌∙◌, subst, arith, rules}
 use Rattle.sheet_text.specs.Symbols.{symbols}
 use Rattle.sheet_text.specs.Lines.{raw, continued, Scanned}
 use Rattle.sheet_text.proofs.Marks.{field_bare, field_quoted, drop_tail, length_tail}

@@ -1,4 +1,4 @@
-use Rattle.std.proofs.Common.{◌≡◌, ap, ◌∙◌, arith}
+use Rattle.std.proofs.Common.{ap, ◌∙◌, arith}
 use Rattle.sheet_text.specs.Lines.{inside}
 use Rattle.sheet_text.proofs.Scanning.{rest_is, quoted_on, quoted_on_two, quoted_closes, quoted_open}
 use Rattle.sheet_text.proofs.scan.quoted_len.Goals as goal

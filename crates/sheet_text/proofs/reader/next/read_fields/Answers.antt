@@ -1,8 +1,8 @@
-use Rattle.std.proofs.Common.{◌≡◌, ◌+◌, ◌<◌, ◌≤◌, true, length, drop, sym, refl, ap, ◌∙◌, arith}
+use Rattle.std.proofs.Common.{◌+◌, ◌<◌, drop, sym, ap, ◌∙◌, arith}
 use Rattle.sheet_text.specs.declared.reader.NextRow.TheVariants.{Fields}
 use Rattle.sheet_text.specs.Symbols.{symbols}
 use Rattle.sheet_text.specs.Grammar.{field}
-use Rattle.sheet_text.specs.Lines.{raw, continued, goes_on}
+use Rattle.sheet_text.specs.Lines.{raw, continued}
 use Rattle.sheet_text.specs.Rows.{taken, next_after, after}
 use Rattle.sheet_text.proofs.Scanning.{rest_is}
 use Rattle.sheet_text.proofs.Lines.{next_front, after_front, step_read, step_within, step_past}
