@@ -1,4 +1,6 @@
 //! A table of sheets with the verdicts of admission, worked out by hand.
+#![tactic(auto)]
+
 ghost use Rattle.std.specs.Prelude.{◌≡◌, length};
 ghost use Rattle.sheet.specs.Sheet.{view};
 ghost use Rattle.admission.specs.Verdict.{admission_verdict};

@@ -1,6 +1,8 @@
 //! Shapes and admits sheets over and over: `checker_speed TIMES FILE..`. It writes the verdict on each,
 //! under clearances of 32 labels in which every label may flow to every label, and to standard error
 //! how many nanoseconds the shortest check took. Reading the file is not counted.
+#![tactic(auto)]
+
 use anyhow::anyhow;
 use policy::{Clearances, Policy};
 use shaping::Draft;

@@ -1,5 +1,7 @@
 //! A hundred trials of one sheet: how many steps they make, and to standard error how many nanoseconds
 //! the shortest of them took.
+#![tactic(auto)]
+
 use evaluator::trial;
 use machine::{Binding, Cell, Frame, Stage, Value};
 use number::Millimetres;

@@ -1,4 +1,5 @@
 //! Trials of sheets whose endings, numbers and steps were worked out by hand.
+#![tactic(auto)]
 
 #[cfg(test)]
 mod limits;

@@ -10,12 +10,13 @@ use super::sheets;
 use super::trials::expect;
 use std::test::Fail;
 
+// (fn x: x x)(fn x: x x). A turn starts an application and its two parts, 3 steps, and leaves the
+// application pending. The application of turn k (from 0 on) finds k nodes pending and its parts find
+// k + 1, so turns 0 to 1022 pass, 3 * 1023 = 3069 steps; that of turn 1023 takes the last place, step
+// 3070, and its first part finds none.
 #[test]
 fn fuel_is_spent_before_places_are_tested(rt: HostRuntime) -> Result<(), Fail> {
-    // (fn x: x x)(fn x: x x). A turn starts an application and its two parts, 3 steps, and leaves the
-    // application pending. The application of turn k (from 0 on) finds k nodes pending and its parts find
-    // k + 1, so turns 0 to 1022 pass, 3 * 1023 = 3069 steps; that of turn 1023 takes the last place, step
-    // 3070, and its first part finds none.
+    // each turn of x x makes three steps and leaves one node pending
     expect(&rt, &sheets::self_application(), 0, 3069, (1, 0, 3069, 999))?;
     expect(&rt, &sheets::self_application(), 0, 3070, (1, 0, 3070, 999))?;
     expect(&rt, &sheets::self_application(), 0, 3071, (2, 0, 3070, 999))?;
@@ -50,27 +51,39 @@ fn pending_to_the_limit_and_one_past_it(rt: HostRuntime) -> Result<(), Fail> {
     expect(&rt, &sheets::pending_past(), 0, 4086, (1, 0, 4086, 999))
 }
 
+// n = 146. A call starts the choice, its condition and a sum: 3; five sums of six applications of a
+// function to 0, 4 steps each: 29; the application, the read, the channel, the difference, the variable
+// and the 1: 6. So c = 38: 9 + 146 * 38 + 3 = 5560. Bindings: 1 for the body of the root's function, 147
+// calls, 6 more in each of 146 of them: 1 + 147 + 876 = 1024.
+// In the other sheet there is a sum around the first call, and then one application more: its three nodes are
+// started, and no place is left for the binding: 5560 + 1 + 3 = 5564.
 #[test]
 fn bindings_to_the_limit_and_one_past_it(rt: HostRuntime) -> Result<(), Fail> {
-    // n = 146. A call starts the choice, its condition and a sum: 3; five sums of six applications of a
-    // function to 0, 4 steps each: 29; the application, the read, the channel, the difference, the variable
-    // and the 1: 6. So c = 38: 9 + 146 * 38 + 3 = 5560. Bindings: 1 for the body of the root's function, 147
-    // calls, 6 more in each of 146 of them: 1 + 147 + 876 = 1024.
+    // 1 for the write, 147 calls, 6 more in each of 146 of them: 1024
     expect(&rt, &sheets::bindings_full(), 0, 1000000, (0, 0, 5560, 999))?;
-    // A sum around the first call, and then one application more: its three nodes are started, and no place
-    // is left for the binding: 5560 + 1 + 3 = 5564. The places are tested whether or not fuel is left.
-    expect(&rt, &sheets::bindings_past(), 0, 1000000, (3, 0, 5564, 999))?;
+    expect(&rt, &sheets::bindings_past(), 0, 1000000, (3, 0, 5564, 999))
+}
+
+// The places are tested whether or not fuel is left.
+#[test]
+fn bindings_past_the_limit_with_the_last_fuel(rt: HostRuntime) -> Result<(), Fail> {
     expect(&rt, &sheets::bindings_past(), 0, 5564, (3, 0, 5564, 999))?;
     expect(&rt, &sheets::bindings_past(), 0, 5563, (1, 0, 5563, 999))
 }
 
+// n = 128. A call starts the choice, its condition and a sum: 3; three sums of four reads of new cells, 3
+// steps each: 15; and 6 as above. So c = 24: 9 + 128 * 24 + 3 = 3084. Cells: 4 in each of 128 calls: 512.
+// In the other sheet there is a sum around the first call, and then one read of a new cell more:
+// 3084 + 1 + 3 = 3088.
 #[test]
 fn cells_to_the_limit_and_one_past_it(rt: HostRuntime) -> Result<(), Fail> {
-    // n = 128. A call starts the choice, its condition and a sum: 3; three sums of four reads of new cells, 3
-    // steps each: 15; and 6 as above. So c = 24: 9 + 128 * 24 + 3 = 3084. Cells: 4 in each of 128 calls: 512.
+    // 4 in each of 128 calls: 512
     expect(&rt, &sheets::cells_full(), 0, 1000000, (0, 0, 3084, 999))?;
-    // A sum around the first call, and then one read of a new cell more: 3084 + 1 + 3 = 3088.
-    expect(&rt, &sheets::cells_past(), 0, 1000000, (4, 0, 3088, 999))?;
+    expect(&rt, &sheets::cells_past(), 0, 1000000, (4, 0, 3088, 999))
+}
+
+#[test]
+fn cells_past_the_limit_with_the_last_fuel(rt: HostRuntime) -> Result<(), Fail> {
     expect(&rt, &sheets::cells_past(), 0, 3088, (4, 0, 3088, 999))?;
     expect(&rt, &sheets::cells_past(), 0, 3087, (1, 0, 3087, 999))
 }

@@ -1,4 +1,6 @@
 //! The formula station as a program: reads a sheet and a policy, and says what they are.
+#![tactic(auto)]
+
 mod explain;
 mod matrix;
 mod numerals;

@@ -1,4 +1,4 @@
--- The metre kind: the binary64 values of IEEE 754, by the language library's own definitions (`lib.Ieee`).
+-- The metre kind: the binary64 values of IEEE 754, by the language library's own definitions (`Rattle.std.specs.Float.Ieee`).
 -- A value is `nan`, an infinity `inf s`, or `fin s m e`, which is m * 2 ^ e, negative where s is true.
 use Rattle.std.specs.Prelude.{Bool, true, false, pos, ◌==◌, Float}
 use Rattle.std.specs.Float.Ieee as Ieee

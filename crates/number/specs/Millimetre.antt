@@ -25,7 +25,7 @@ abbrev pub one_if : Bool → ℤ
 one_if true = pos 1
 one_if false = pos 0
 
--- the quotient with its fraction dropped (`quot_z`), brought into the range; 0 where the divisor is 0
+-- the quotient with its fraction dropped (`int_div`), brought into the range; 0 where the divisor is 0
 abbrev pub divided : ℤ → ℤ → ℤ
 divided a b = cond (sameℤ b (pos 0)) (pos 0) (clamp (int_div a b))
 

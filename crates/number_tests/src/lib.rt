@@ -1,4 +1,5 @@
 //! Tests of the number kinds and of the bounded stack, over tables written by hand.
+#![tactic(auto)]
 
 #[cfg(test)]
 mod metres;

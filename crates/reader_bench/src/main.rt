@@ -1,5 +1,7 @@
 //! Reads sheets over and over: `reader_bench TIMES FILE..`. It writes what reading each came to, and
 //! to standard error how many nanoseconds the shortest reading took. The table has 4,000 places.
+#![tactic(auto)]
+
 use anyhow::anyhow;
 use sheet::Row;
 use sheet_text::{Refusal, read_sheet};

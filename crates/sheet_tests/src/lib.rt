@@ -1,4 +1,6 @@
 //! A table of sheets with the verdicts of shaping, worked out by hand.
+#![tactic(auto)]
+
 ghost use Rattle.std.specs.Prelude.{◌≡◌};
 ghost use Rattle.sheet.specs.Sheet.{view};
 ghost use Rattle.shaping.specs.Verdict.{shape_verdict, counts_of};

@@ -144,7 +144,7 @@ const WHOLE_SHEET: [Case; 1] = [(
 fn check_all(rt: &(impl Abort + AllocGlobal), cases: &[Case]) -> Result<(), Fail> {
     for case in cases {
         let (name, text, rows) = *case;
-        check_reading(rt, rt.alloc(), text, PLACES, Ok(rows.len()), rows).note(name)?;
+        check_reading(rt, name, rt.alloc(), text, PLACES, Ok(rows.len()), rows)?;
     }
     Ok(())
 }

@@ -106,7 +106,15 @@ fn longest(rt: HostRuntime) -> Result<(), Fail> {
     let text = rows_and(heap, 4000, b"")?;
     assert_eq!(rt; text.len(), 60_000);
     let rows = vec![in heap; FIELDS; 4000]?;
-    check_reading(&rt, heap, text.as_slice(), 4001, Ok(4000), rows.as_slice())
+    check_reading(
+        &rt,
+        "the longest",
+        heap,
+        text.as_slice(),
+        4001,
+        Ok(4000),
+        rows.as_slice(),
+    )
 }
 
 #[test]
@@ -114,9 +122,9 @@ fn rows_and_bytes(rt: HostRuntime) -> Result<(), Fail> {
     let heap = rt.alloc();
     for (name, rows, last, size, room, question, row) in ROWS_AND {
         let text = rows_and(heap, rows, last)?;
-        assert_eq!(rt; text.len(), size, "{}", name);
+        assert_eq!(rt; text.len(), size, "{name}");
         let refusal = Err(Refusal { question, row });
-        check_reading(&rt, heap, text.as_slice(), room, refusal, &[]).note(name)?;
+        check_reading(&rt, name, heap, text.as_slice(), room, refusal, &[])?;
     }
     Ok(())
 }
@@ -127,7 +135,7 @@ fn one_byte_repeated(rt: HostRuntime) -> Result<(), Fail> {
     for (name, byte, size, question, row) in ONE_BYTE {
         let text = vec![in heap; byte; size]?;
         let refusal = Err(Refusal { question, row });
-        check_reading(&rt, heap, text.as_slice(), 3, refusal, &[]).note(name)?;
+        check_reading(&rt, name, heap, text.as_slice(), 3, refusal, &[])?;
     }
     Ok(())
 }

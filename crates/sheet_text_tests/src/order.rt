@@ -145,7 +145,7 @@ fn check_all(rt: &(impl Abort + AllocGlobal), cases: &[Case]) -> Result<(), Fail
     for case in cases {
         let (name, text, room, question, row) = *case;
         let refusal = Err(Refusal { question, row });
-        check_reading(rt, rt.alloc(), text, room, refusal, &[]).note(name)?;
+        check_reading(rt, name, rt.alloc(), text, room, refusal, &[])?;
     }
     Ok(())
 }
@@ -164,9 +164,10 @@ fn table_too_short(rt: HostRuntime) -> Result<(), Fail> {
 #[test]
 fn table_just_full(rt: HostRuntime) -> Result<(), Fail> {
     let heap = rt.alloc();
-    check_reading(&rt, heap, b"", 0, Ok(0), &[])?;
+    check_reading(&rt, "no row", heap, b"", 0, Ok(0), &[])?;
     check_reading(
         &rt,
+        "one row",
         heap,
         b"N,1,2,3,4,5",
         1,
@@ -175,6 +176,7 @@ fn table_just_full(rt: HostRuntime) -> Result<(), Fail> {
     )?;
     check_reading(
         &rt,
+        "two rows",
         heap,
         b"S,1,2,3,4,5\r\nE,6,7,8,9,0\r\n",
         2,

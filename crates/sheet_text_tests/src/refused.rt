@@ -205,7 +205,7 @@ fn check_all(
     for case in cases {
         let (name, text, row) = *case;
         let refusal = Err(Refusal { question, row });
-        check_reading(rt, rt.alloc(), text, PLACES, refusal, &[]).note(name)?;
+        check_reading(rt, name, rt.alloc(), text, PLACES, refusal, &[])?;
     }
     Ok(())
 }

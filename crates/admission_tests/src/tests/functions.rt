@@ -67,9 +67,8 @@ fn applications(rt: HostRuntime) -> Result<(), Fail> {
         &rt,
         application(),
         &[
-            // the argument is 2's too, or a reference
+            // the argument
             (7, 'N', 0, 1, 1, 2, 5, 34008),
-            (7, 'N', 5, 1, 3, 2, 0, 34008),
             // the function's set within its effect
             (2, 'T', 1, 4, 0, 0, 2, 34008),
             (2, 'T', 1, 2, 0, 0, 2, 0),
@@ -84,6 +83,12 @@ fn applications(rt: HostRuntime) -> Result<(), Fail> {
             (7, 'N', 0, 1, 0, 0, 5, 35008),
         ],
     )
+}
+
+// The argument is a reference.
+#[test]
+fn applied_to_reference(rt: HostRuntime) -> Result<(), Fail> {
+    run(&rt, application(), &[(7, 'N', 5, 1, 3, 2, 0, 34008)])
 }
 
 #[test]
