@@ -15,7 +15,7 @@ apart : {b : Bool} → b ≡ true → b ≡ false → ⊥
 apart h k = let z : ◌≡◌ {A = ℕ} 1 0 = ap (λ b. cond b 1 0) (sym h ∙ k) in omega arith
 
 -- where nothing is refused, every question was answered yes
-yes_first : (q : Question) (t : Bool) (qs : List (Question × Bool)) → first_refused ((q, t) ∷ qs) ≡ None → (t ≡ true) × (first_refused qs ≡ None)
+pub yes_first : (q : Question) (t : Bool) (qs : List (Question × Bool)) → first_refused ((q, t) ∷ qs) ≡ None → (t ≡ true) × (first_refused qs ≡ None)
 yes_first q true qs h = (refl, h)
 yes_first q false qs h = let z : ◌≡◌ {A = ℕ} 0 1 = cc in absurd (omega arith)
 

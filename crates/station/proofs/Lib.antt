@@ -1,6 +1,11 @@
 pub mod Alone
+pub mod Answered
 pub mod Areas
 pub mod Assured
+pub mod Cleared
+pub mod Granted
 pub mod Like
+pub mod Line
+pub mod Sites
 pub mod Sure
 pub mod Told

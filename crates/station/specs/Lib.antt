@@ -1,2 +1,4 @@
 pub mod Calls
 pub mod Histories
+pub mod Answered
+pub mod Promise

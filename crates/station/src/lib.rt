@@ -1,8 +1,10 @@
-//! The station: the calls of the seats of an admitted sheet, by definition, and what no history of
-//! them shows.
+//! The station: the calls of the seats of an admitted sheet, and what no history of them shows.
 #![tactic(auto)]
 
+pub mod calls;
 pub mod promise;
 pub mod question;
+pub mod state;
 
 pub use question::Question;
+pub use state::Station;

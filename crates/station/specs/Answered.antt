@@ -1,0 +1,46 @@
+-- What the code asks and answers, with each number by its value.
+use Rattle.std.specs.Prelude.{◌≡◌, ℕ, Bool, true, false, [], ◌∷◌, Some, None, Option, Ok, Err, Result}
+use Rattle.sheet.specs.Sheet.{Sheet}
+use Rattle.evaluator.specs.declared.report.Report.{Report}
+use Rattle.evaluator.specs.Runs.{reported}
+use Rattle.station.specs.declared.question.Question.{Question}
+use Rattle.station.specs.declared.question.Question.TheVariants.{ChannelArea}
+use Rattle.station.specs.Calls.{Answer, refused, granted, told, ended, first_refused, roomy}
+
+-- the verdict, from the first question that is refused: yes, or that question
+abbrev pub verdict : Option Question → Result (Unit {0}) Question
+verdict None = Ok tt
+verdict (Some q) = Err q
+
+-- every question is answered yes
+abbrev pub passed : Result (Unit {0}) Question → Bool
+passed (Ok u) = true
+passed (Err q) = false
+
+-- the first question that is refused of an opening over an area of so many places
+abbrev pub opening_refusal : Sheet → ℕ → Option Question
+opening_refusal S len = first_refused ((ChannelArea, roomy S len) ∷ [])
+
+-- the verdict on an opening
+abbrev pub opening_verdict : Sheet → ℕ → Result (Unit {0}) Question
+opening_verdict S len = verdict (opening_refusal S len)
+
+-- what the code answers to a post, to a read, and to a run
+module _ {V : Type 0} where
+  abbrev pub posted : Result (Unit {0}) Question → Answer V
+  posted (Ok u) = granted
+  posted (Err q) = refused q
+
+  module _ {K : Type 0} (n : K → V) where
+    abbrev pub read_out : Result K Question → Answer V
+    read_out (Ok x) = told (n x)
+    read_out (Err q) = refused q
+
+    abbrev pub ran : Result (Report K) Question → Answer V
+    ran (Ok r) = ended (reported n r)
+    ran (Err q) = refused q
+
+-- a refusal leaves the area as it was
+abbrev pub LeftAlone : {A B : Type 0} → Result A Question → B → B → Type 0
+LeftAlone (Ok r) before after = Unit {0}
+LeftAlone (Err q) before after = after ≡ before

@@ -1,0 +1,107 @@
+use super::play::{Scenario, play};
+use evaluator::Report;
+use machine::{Binding, Cell, Frame, Stage, Value};
+use number::Millimetres;
+use station::{Question, Station};
+use std::process::Abort;
+use std::test::*;
+
+// Nothing is called.
+#[derive(Drop)]
+struct Nothing;
+
+impl Scenario for Nothing {
+    fn perform(&self, _rt: &impl Abort, _station: &mut Station<Millimetres>) -> Result<(), Fail> {
+        Ok(())
+    }
+}
+
+// An opening over so many places, at most five: the number of its refusal.
+fn opened(rt: &impl Abort, places: usize) -> Result<u8, Fail> {
+    let mut channels = [Millimetres { count: 9 }; 5];
+    play(rt, &mut channels[0..places.min(5)], &Nothing)
+}
+
+// Three sites, so three places.
+#[test]
+fn opening_asks_for_a_place_for_each_site(rt: HostRuntime) -> Result<(), Fail> {
+    assert_eq!(rt; opened(&rt, 0)?, 41);
+    assert_eq!(rt; opened(&rt, 2)?, 41);
+    assert_eq!(rt; opened(&rt, 3)?, 0);
+    assert_eq!(rt; opened(&rt, 5)?, 0);
+    Ok(())
+}
+
+// Runs that are refused, by 42 to 45, over areas with a mark in each place.
+#[derive(Drop)]
+struct RefusedRuns;
+
+fn number_of(answer: Result<Report<Millimetres>, Question>) -> u8 {
+    match answer {
+        Ok(_) => 0,
+        Err(question) => question.number(),
+    }
+}
+
+// Four runs, of which the last has one place too few for cells.
+fn refuse(
+    rt: &impl Abort,
+    station: &mut Station<Millimetres>,
+    pending: &mut [Frame<Millimetres>],
+    bound: &mut [Binding<Millimetres>],
+    held: &mut [Cell<Millimetres>],
+) -> Result<(), Fail> {
+    assert_eq!(rt; number_of(station.run(1, 2, 100, pending, bound, held)), 42);
+    assert_eq!(rt; number_of(station.run(2, 0, 100, pending, bound, held)), 43);
+    assert_eq!(rt; number_of(station.run(1, 0, 0, pending, bound, held)), 44);
+    let few = held.len().min(543);
+    let answer = station.run(1, 0, 100, pending, bound, &mut held[0..few]);
+    assert_eq!(rt; number_of(answer), 45);
+    Ok(())
+}
+
+// Every place has its mark still.
+fn marked(
+    rt: &impl Abort,
+    pending: &[Frame<Millimetres>],
+    bound: &[Binding<Millimetres>],
+    held: &[Cell<Millimetres>],
+) -> Result<(), Fail> {
+    for frame in pending {
+        assert_eq!(rt; frame.node, 77);
+    }
+    for binding in bound {
+        assert_eq!(rt; binding.function, 77);
+    }
+    for cell in held {
+        assert_eq!(rt; cell.site, 77);
+    }
+    Ok(())
+}
+
+impl Scenario for RefusedRuns {
+    fn perform(&self, rt: &impl Abort, station: &mut Station<Millimetres>) -> Result<(), Fail> {
+        let value: Value<Millimetres> = Value::Reference(77);
+        let stage: Stage<Millimetres> = Stage::Passes;
+        let mut pending = [Frame {
+            node: 77,
+            scope: 77,
+            stage,
+        }; 1024];
+        let mut bound = [Binding {
+            function: 77,
+            value,
+            outer: 77,
+        }; 1024];
+        let mut held = [Cell { site: 77, value }; 544];
+        refuse(rt, station, &mut pending, &mut bound, &mut held)?;
+        marked(rt, &pending, &bound, &held)
+    }
+}
+
+#[test]
+fn refused_runs_leave_the_areas_as_they_were(rt: HostRuntime) -> Result<(), Fail> {
+    let mut channels = [Millimetres { count: 9 }; 3];
+    assert_eq!(rt; play(&rt, &mut channels, &RefusedRuns)?, 0);
+    Ok(())
+}

@@ -1,0 +1,185 @@
+// Plays a script of calls over a station, and holds each answer to the one expected.
+use admission::{admit, check as check_admission};
+use evaluator::Report;
+use machine::{Binding, Cell, Frame, Stage, Value};
+use number::Millimetres;
+use policy::PairList;
+use shaping::Draft;
+use sheet::Row;
+use station::{Question, Station};
+use std::process::Abort;
+use std::test::*;
+
+// A call of a seat; a run has so many places for pending nodes, bindings and cells.
+#[derive(Clone, Copy)]
+pub(crate) enum Call {
+    Post(usize, usize, i32),
+    Read(usize, usize),
+    Run(usize, usize, usize, (usize, usize, usize)),
+}
+
+// What a call tells: the number of its refusal or of the run's ending (0 for a post or a read that is
+// granted), its number, and its steps.
+pub(crate) type Told = (u8, i32, usize);
+
+fn row(letter: char, a: i64, b: i64, c: i64, d: i64, e: i64) -> Row {
+    Row {
+        letter,
+        a,
+        b,
+        c,
+        d,
+        e,
+    }
+}
+
+// Channel 0 is seat 1's, channel 1 seat 2's, and site 2 is a fresh one. Entry 0, seat 1's, sets channel
+// 1 to what channel 0 holds; entry 1, seat 2's, reads channel 1.
+pub(crate) fn sheet() -> [Row; 15] {
+    [
+        row('T', 0, 6, 0, 0, 0),
+        row('T', 0, 2, 0, 0, 0),
+        row('T', 2, 0, 1, 0, 0),
+        row('T', 2, 0, 2, 0, 0),
+        row('S', 1, 1, 1, 0, 0),
+        row('S', 2, 0, 1, 0, 0),
+        row('S', 2, 0, 0, 0, 0),
+        row('N', 5, 1, 3, 2, 1),
+        row('N', 5, 1, 2, 2, 0),
+        row('N', 6, 2, 1, 2, 0),
+        row('N', 7, 4, 1, 2, 0),
+        row('N', 5, 1, 3, 4, 1),
+        row('N', 6, 2, 0, 4, 0),
+        row('E', 1, 3, 0, 0, 0),
+        row('E', 2, 5, 0, 0, 0),
+    ]
+}
+
+// Labels 0, 1 and 2: 0 flows to 1, and 1 to 2.
+pub(crate) fn in_steps() -> Result<PairList, Fail> {
+    let Ok(mut policy) = PairList::new(3) else {
+        return Err(Fail::new("labels"));
+    };
+    let _ = policy.allow(0, 1);
+    let _ = policy.allow(1, 2);
+    Ok(policy)
+}
+
+fn refused(question: Question) -> Told {
+    (question.number(), 0, 0)
+}
+
+fn ran(answer: Result<Report<Millimetres>, Question>) -> Told {
+    match answer {
+        Ok(report) => (report.ending.number(), report.number.count, report.steps),
+        Err(question) => refused(question),
+    }
+}
+
+// Makes a call with work areas of at most the places lent.
+fn made(
+    station: &mut Station<Millimetres>,
+    call: Call,
+    pending: &mut [Frame<Millimetres>],
+    bound: &mut [Binding<Millimetres>],
+    held: &mut [Cell<Millimetres>],
+) -> Told {
+    match call {
+        Call::Post(seat, channel, count) => {
+            match station.post(seat, channel, Millimetres { count }) {
+                Ok(()) => (0, 0, 0),
+                Err(question) => refused(question),
+            }
+        }
+        Call::Read(seat, channel) => match station.read(seat, channel) {
+            Ok(number) => (0, number.count, 0),
+            Err(question) => refused(question),
+        },
+        Call::Run(seat, entry, fuel, (p, b, c)) => {
+            let (p, b) = (p.min(pending.len()), b.min(bound.len()));
+            let c = c.min(held.len());
+            ran(station.run(
+                seat,
+                entry,
+                fuel,
+                &mut pending[0..p],
+                &mut bound[0..b],
+                &mut held[0..c],
+            ))
+        }
+    }
+}
+
+// Makes calls one by one: each must tell what stands beside it.
+fn walk(
+    rt: &impl Abort,
+    station: &mut Station<Millimetres>,
+    calls: &[(Call, Told)],
+    pending: &mut [Frame<Millimetres>],
+    bound: &mut [Binding<Millimetres>],
+    held: &mut [Cell<Millimetres>],
+) -> Result<(), Fail> {
+    for (call, told) in calls {
+        let answer = made(station, *call, pending, bound, held);
+        assert_eq!(rt; answer.0, told.0);
+        assert_eq!(rt; answer.1, told.1);
+        assert_eq!(rt; answer.2, told.2);
+    }
+    Ok(())
+}
+
+// What is done with a station once it is open.
+pub(crate) trait Scenario {
+    fn perform(&self, rt: &impl Abort, station: &mut Station<Millimetres>) -> Result<(), Fail>;
+}
+
+// Calls to make one by one, each with what it must tell.
+#[derive(Drop)]
+pub(crate) struct Script<'a> {
+    pub(crate) calls: &'a [(Call, Told)],
+}
+
+impl Scenario for Script<'_> {
+    fn perform(&self, rt: &impl Abort, station: &mut Station<Millimetres>) -> Result<(), Fail> {
+        let value: Value<Millimetres> = Value::Reference(0);
+        let stage: Stage<Millimetres> = Stage::Passes;
+        let mut pending = [Frame {
+            node: 0,
+            scope: 0,
+            stage,
+        }; 1030];
+        let mut bound = [Binding {
+            function: 0,
+            value,
+            outer: 0,
+        }; 1030];
+        let mut held = [Cell { site: 0, value }; 550];
+        walk(rt, station, self.calls, &mut pending, &mut bound, &mut held)
+    }
+}
+
+// Opens a station over the sheet and plays the scenario: the number of the question that the opening
+// is refused for, and 0 where it is opened.
+pub(crate) fn play<S: Scenario>(
+    rt: &impl Abort,
+    channels: &mut [Millimetres],
+    scenario: &S,
+) -> Result<u8, Fail> {
+    let rows = sheet();
+    let policy = in_steps()?;
+    let draft = Draft::new(&rows);
+    if draft.check().is_err() {
+        return Err(Fail::new("not shaped"));
+    }
+    let shaped = draft.shape();
+    if check_admission(&shaped, &policy).is_err() {
+        return Err(Fail::new("not admitted"));
+    }
+    let admitted = admit(shaped, &policy);
+    if let Err(question) = Station::check(&admitted, channels) {
+        return Ok(question.number());
+    }
+    let mut station = Station::open(admitted, channels);
+    scenario.perform(rt, &mut station)?;
+    Ok(0)
+}
