@@ -1,7 +1,9 @@
-// A sheet's file: read to its end, shaped, and held against a policy.
+// A sheet's file: read to its end, shaped, held against a policy, and opened as a station.
+use super::kinds::{Kind, asked_kind};
 use super::policy_file::Reading;
-use super::{explain, policy_file, words};
-use admission::Question as Asked;
+use super::{explain, policy_file, station_lines, words};
+use admission::{Admitted, Question as Asked};
+use number::{Metres, Millimetres};
 use policy::Policy;
 use shaping::{Draft, Question, Shaped};
 use sheet::{Refusal, Row, Table};
@@ -123,24 +125,43 @@ fn tell_admission<P: Policy>(
     tell_rule(rt, Table::new(rows), policy, refusal)
 }
 
-// Admits a shaped sheet under a policy: whether it was granted.
+// Answers the calls of the input over an admitted sheet: whether a station was opened.
+fn serve(rt: &HostRuntime, sheet: Admitted, kind: Kind) -> anyhow::Result<bool> {
+    match kind {
+        Kind::Millimetres => station_lines::serve::<Millimetres>(rt, sheet),
+        Kind::Metres => station_lines::serve::<Metres>(rt, sheet),
+    }
+}
+
+// Admits a shaped sheet under a policy, and answers calls over it where a kind of numbers is given for
+// them: whether everything was granted.
 fn admit<P: Policy>(
     rt: &HostRuntime,
     rows: &[Row],
     shaped: Shaped,
     policy: &P,
+    calls: Option<Kind>,
 ) -> anyhow::Result<bool> {
     if let Err(refusal) = admission::check(&shaped, policy) {
         tell_admission(rt, rows, policy, refusal)?;
         return Ok(false);
     }
-    let _admitted = admission::admit(shaped, policy);
+    let admitted = admission::admit(shaped, policy);
     println!(rt; "admitted")?;
-    Ok(true)
+    match calls {
+        Some(kind) => serve(rt, admitted, kind),
+        None => Ok(true),
+    }
 }
 
-// Shapes the rows, and holds them against the policy of a file: whether everything was granted.
-fn shape(rt: &HostRuntime, rows: &[Row], policy: &str) -> anyhow::Result<bool> {
+// Shapes the rows, holds them against the policy of a file, and answers calls where a kind of numbers is
+// given for them: whether everything was granted.
+fn shape(
+    rt: &HostRuntime,
+    rows: &[Row],
+    policy: &str,
+    calls: Option<Kind>,
+) -> anyhow::Result<bool> {
     let draft = Draft::new(rows);
     if let Err(refusal) = draft.check() {
         tell_shaping(rt, rows, refusal)?;
@@ -150,10 +171,10 @@ fn shape(rt: &HostRuntime, rows: &[Row], policy: &str) -> anyhow::Result<bool> {
     tell_counts(rt, &shaped)?;
     match policy_file::open(rt, policy)? {
         Reading::Nothing => Ok(false),
-        Reading::Pairs(policy) => admit(rt, rows, shaped, &policy),
-        Reading::Clearances(policy) => admit(rt, rows, shaped, &policy),
-        Reading::NarrowedPairs(policy) => admit(rt, rows, shaped, &policy),
-        Reading::NarrowedClearances(policy) => admit(rt, rows, shaped, &policy),
+        Reading::Pairs(policy) => admit(rt, rows, shaped, &policy, calls),
+        Reading::Clearances(policy) => admit(rt, rows, shaped, &policy, calls),
+        Reading::NarrowedPairs(policy) => admit(rt, rows, shaped, &policy, calls),
+        Reading::NarrowedClearances(policy) => admit(rt, rows, shaped, &policy, calls),
     }
 }
 
@@ -187,7 +208,19 @@ pub(crate) fn read(rt: &HostRuntime, path: &str) -> anyhow::Result<Option<Vec<Ro
 // Reads a sheet, shapes it and holds it against a policy: whether everything was granted.
 pub(crate) fn check(rt: &HostRuntime, path: &str, policy: &str) -> anyhow::Result<bool> {
     match read(rt, path)? {
-        Some(rows) => shape(rt, rows.as_slice(), policy),
+        Some(rows) => shape(rt, rows.as_slice(), policy, None),
+        None => Ok(false),
+    }
+}
+
+// Does what a check does, opens a station over the sheet where it is admitted, and answers the calls of
+// the input: whether the sheet was granted.
+pub(crate) fn run(rt: &HostRuntime, path: &str, policy: &str, kind: &str) -> anyhow::Result<bool> {
+    let Some(kind) = asked_kind(rt, kind)? else {
+        return Ok(false);
+    };
+    match read(rt, path)? {
+        Some(rows) => shape(rt, rows.as_slice(), policy, Some(kind)),
         None => Ok(false),
     }
 }

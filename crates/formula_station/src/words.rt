@@ -4,6 +4,7 @@ use evaluator::Refusal as TrialRefusal;
 use policy::Refusal as PolicyRefusal;
 use shaping::Question as ShapeQuestion;
 use sheet_text::Question as TextQuestion;
+use station::Question as CallQuestion;
 
 // Reading a sheet's text.
 pub(crate) fn of_text(question: TextQuestion) -> &'static str {
@@ -92,5 +93,17 @@ pub(crate) fn of_trial(refusal: TrialRefusal) -> &'static str {
         TrialRefusal::Entry => "the sheet has no such entry",
         TrialRefusal::Fuel => "fuel is 1 to 1,000,000 steps",
         TrialRefusal::Areas => "a work area is too short",
+    }
+}
+
+// Opening a station, or calling it.
+pub(crate) fn of_call(question: CallQuestion) -> &'static str {
+    match question {
+        CallQuestion::ChannelArea => "the channel area has not a place for each site",
+        CallQuestion::Target =>
+            "the sheet has no such channel or entry (a fresh site is no channel)",
+        CallQuestion::Seat => "the channel or entry is not this seat's",
+        CallQuestion::Fuel => "fuel is 1 to 1,000,000 steps",
+        CallQuestion::WorkAreas => "a work area is too short",
     }
 }
