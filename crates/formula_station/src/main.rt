@@ -13,8 +13,8 @@ mod trial_lines;
 mod words;
 mod work;
 
-use anyhow::anyhow;
 use std::env;
+use std::process::ExitCode;
 
 const HELP: &str =
     "formula_station: a sheet of formulas that several parties share, under a policy of who may see whose data
@@ -163,10 +163,10 @@ fn run(rt: &HostRuntime) -> anyhow::Result<bool> {
     }
 }
 
-fn main(rt: HostRuntime) -> anyhow::Result<()> {
-    match run(&rt) {
-        Ok(true) => Ok(()),
-        Ok(false) => Err(anyhow!("refused")),
-        Err(error) => Err(error),
+fn main(rt: HostRuntime) -> anyhow::Result<ExitCode> {
+    if run(&rt)? {
+        Ok(ExitCode::SUCCESS)
+    } else {
+        Ok(ExitCode::FAILURE)
     }
 }
