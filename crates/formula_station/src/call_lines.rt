@@ -3,11 +3,9 @@ use super::kinds::Worded;
 use super::numerals::natural;
 use std::str::{SplitWhitespace, from_utf8};
 
-// What a line says.
+// A call of a seat.
 #[derive(Clone, Copy)]
-pub(crate) enum Line<K> {
-    Blank,
-    Malformed,
+pub(crate) enum Call<K> {
     Post {
         seat: usize,
         channel: usize,
@@ -24,6 +22,14 @@ pub(crate) enum Line<K> {
     },
 }
 
+// What a line says.
+#[derive(Clone, Copy)]
+pub(crate) enum Line<K> {
+    Blank,
+    Malformed,
+    Call(Call<K>),
+}
+
 // A word that counts or numbers something.
 fn place(word: &str) -> Option<usize> {
     match natural(word) {
@@ -33,46 +39,42 @@ fn place(word: &str) -> Option<usize> {
 }
 
 // A post of the number that a word says.
-fn post<K: Worded>(seat: usize, channel: usize, number: &str) -> Line<K> {
-    match K::parsed(number) {
-        Some(number) => Line::Post {
-            seat,
-            channel,
-            number,
-        },
-        None => Line::Malformed,
-    }
+fn post<K: Worded>(seat: usize, channel: usize, number: &str) -> Option<Call<K>> {
+    let number = K::parsed(number)?;
+    Some(Call::Post {
+        seat,
+        channel,
+        number,
+    })
 }
 
 // A run with the fuel that a word says.
-fn run<K: Worded>(seat: usize, entry: usize, fuel: &str) -> Line<K> {
-    match place(fuel) {
-        Some(fuel) => Line::Run { seat, entry, fuel },
-        None => Line::Malformed,
-    }
+fn run<K: Worded>(seat: usize, entry: usize, fuel: &str) -> Option<Call<K>> {
+    let fuel = place(fuel)?;
+    Some(Call::Run { seat, entry, fuel })
 }
 
-// What a name, two numbers and perhaps a word more say.
-fn named<K: Worded>(name: &str, seat: usize, target: usize, last: Option<&str>) -> Line<K> {
+// The call that a name, two numbers and perhaps a word more say.
+fn named<K: Worded>(name: &str, seat: usize, target: usize, last: Option<&str>) -> Option<Call<K>> {
     match (name, last) {
         ("post", Some(number)) => post(seat, target, number),
-        ("read", None) => Line::Read {
+        ("read", None) => Some(Call::Read {
             seat,
             channel: target,
-        },
+        }),
         ("run", Some(fuel)) => run(seat, target, fuel),
-        _ => Line::Malformed,
+        _ => None,
     }
 }
 
-// What a name and the words after it say; none where they are too few, too many or no numbers.
-fn called<K: Worded>(name: &str, words: &mut SplitWhitespace) -> Option<Line<K>> {
+// The call that a name and the words after it say.
+fn called<K: Worded>(name: &str, words: &mut SplitWhitespace) -> Option<Call<K>> {
     let seat = place(words.next()?)?;
     let target = place(words.next()?)?;
     let last = words.next();
     match words.next() {
         Some(_) => None,
-        None => Some(named(name, seat, target, last)),
+        None => named(name, seat, target, last),
     }
 }
 
@@ -83,7 +85,7 @@ fn parse_text<K: Worded>(text: &str) -> Line<K> {
         return Line::Blank;
     };
     match called(name, &mut words) {
-        Some(line) => line,
+        Some(call) => Line::Call(call),
         None => Line::Malformed,
     }
 }

@@ -1,5 +1,5 @@
 // An open station, and the answers to the calls of its seats, a line each.
-use super::call_lines::{Line, parse, written};
+use super::call_lines::{Call, Line, parse, written};
 use super::kinds::Worded;
 use super::words;
 use super::work::{Areas, area, new_areas, tell_report};
@@ -70,44 +70,42 @@ fn tell_run<K: Worded>(
 }
 
 // Makes a call, and tells what became of it: the question that it was refused for, if it was.
-fn call<K: Worded>(
+fn make<K: Worded>(
     rt: &HostRuntime,
     station: &mut Station<K>,
     areas: &mut Areas<K>,
-    line: Line<K>,
+    call: Call<K>,
 ) -> anyhow::Result<Option<Question>> {
-    match line {
-        Line::Post {
+    match call {
+        Call::Post {
             seat,
             channel,
             number,
         } => tell_posted(rt, station.post(seat, channel, number)),
-        Line::Read { seat, channel } => tell_read(rt, station.read(seat, channel)),
-        Line::Run { seat, entry, fuel } => {
+        Call::Read { seat, channel } => tell_read(rt, station.read(seat, channel)),
+        Call::Run { seat, entry, fuel } => {
             let pending = areas.pending.as_mut_slice();
             let bound = areas.bound.as_mut_slice();
             let held = areas.held.as_mut_slice();
             tell_run(rt, station.run(seat, entry, fuel, pending, bound, held))
         }
-        _ => Ok(None),
     }
 }
 
 // The label of the channel or the entry that a call names.
-fn owner<K: Worded>(table: Table, line: Line<K>) -> usize {
-    match line {
-        Line::Run {
-            seat: _,
-            entry,
-            fuel: _,
-        } => table.entry_at(entry).label,
-        Line::Read { seat: _, channel } => table.site_at(channel).label,
-        Line::Post {
+fn owner<K: Worded>(table: Table, call: Call<K>) -> usize {
+    match call {
+        Call::Post {
             seat: _,
             channel,
             number: _,
         } => table.site_at(channel).label,
-        _ => 0,
+        Call::Read { seat: _, channel } => table.site_at(channel).label,
+        Call::Run {
+            seat: _,
+            entry,
+            fuel: _,
+        } => table.entry_at(entry).label,
     }
 }
 
@@ -115,13 +113,13 @@ fn owner<K: Worded>(table: Table, line: Line<K>) -> usize {
 fn tell_refused<K: Worded>(
     rt: &HostRuntime,
     table: Table,
-    line: Line<K>,
+    call: Call<K>,
     question: Question,
     text: &[u8],
 ) -> anyhow::Result<()> {
     tell_question(rt, question, text)?;
     if let Question::Seat = question {
-        let label = owner(table, line);
+        let label = owner(table, call);
         eprintln!(rt; "its label is {label}")?;
     }
     Ok(())
@@ -135,12 +133,11 @@ fn answer<K: Worded>(
     areas: &mut Areas<K>,
     text: &[u8],
 ) -> anyhow::Result<()> {
-    let line = parse::<K>(text);
-    match line {
+    match parse::<K>(text) {
         Line::Blank => Ok(()),
         Line::Malformed => tell_malformed(rt, text),
-        _ => match call(rt, station, areas, line)? {
-            Some(question) => tell_refused(rt, table, line, question, text),
+        Line::Call(call) => match make(rt, station, areas, call)? {
+            Some(question) => tell_refused(rt, table, call, question, text),
             None => Ok(()),
         },
     }
