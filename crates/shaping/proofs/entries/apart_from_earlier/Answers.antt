@@ -1,5 +1,5 @@
 use Rattle.shaping.specs.Entries.{apart_from_earlier}
-use Rattle.shaping.proofs.entries.LawfulEntry.apart_from_earlier.Goals as goal
+use Rattle.shaping.proofs.entries.apart_from_earlier.Goals as goal
 
 pub returns : goal.returns
 unfolding apart_from_earlier

@@ -1,5 +1,5 @@
 use Rattle.shaping.specs.Entries.{covered}
-use Rattle.shaping.proofs.entries.CoveredProperty.holds.Goals as goal
+use Rattle.shaping.proofs.entries.covered.Goals as goal
 
 pub returns : goal.returns
 unfolding covered
