@@ -35,13 +35,14 @@ fn outside(table: &Table, i: usize, e: usize) -> bool
 }
 
 // The tree of entry e shares no node with that of an earlier one.
+#[tactic(auto, unfolding(crate::specs::Entries::apart_from_earlier))]
 fn apart_from_earlier(table: &Table, e: usize) -> bool
     ensures { result ≡ apart_from_earlier (view table.now.rows.now) e }
 {
     all(e, |f| apart(table, e, f))
 }
 
-// Question 27, of entry e.
+/// Question 27, of entry e.
 pub fn lawful_entry(table: &Table, e: usize) -> bool
     ensures { result ≡ lawful_entry (view table.now.rows.now) e }
 {
@@ -49,7 +50,8 @@ pub fn lawful_entry(table: &Table, e: usize) -> bool
     x.label < 32 && x.root < table.nodes && spare(x) && apart_from_earlier(table, e)
 }
 
-// Question 27, of node i: some entry's tree has it.
+/// Question 27, of node i: some entry's tree has it.
+#[tactic(auto, unfolding(crate::specs::Entries::covered))]
 pub fn covered(table: &Table, i: usize) -> bool
     ensures { result ≡ covered (view table.now.rows.now) i }
 {

@@ -17,7 +17,7 @@ fn rank(letter: char) -> usize
     }
 }
 
-// Question 21, of row k.
+/// Question 21, of row k.
 pub fn in_order(rows: &[Row], k: usize) -> bool
     ensures { result ≡ in_order rows.now k }
 {
@@ -32,7 +32,7 @@ pub fn in_order(rows: &[Row], k: usize) -> bool
 fn from_one(most: usize, n: usize) -> bool
     ensures { result ≡ from_one most n }
 {
-    1 <= n && n <= most
+    (1..=most).contains(&n)
 }
 
 // Question 22.

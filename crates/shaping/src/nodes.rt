@@ -1,15 +1,15 @@
 ghost use Rattle.std.specs.Prelude.{◌≡◌};
-ghost use Rattle.sheet.specs.Sheet.{view};
+ghost use Rattle.sheet.specs.Sheet.{is_channel, is_fresh, view};
 ghost use Rattle.shaping.specs.Nodes.{literal_fits, site_flagged, lawful_argument, parts_begin, sized, lawful_node, bound};
 
 use sheet::sets::set_below;
-use sheet::{Kind, NodeRow, Table};
+use sheet::{Flag, Kind, NodeRow, Table};
 
 // From -2^31 to 2^31 - 1.
 fn literal_fits(x: i64) -> bool
     ensures { result ≡ literal_fits x }
 {
-    x >= -2147483648 && x <= 2147483647
+    i32::try_from(x).is_ok()
 }
 
 // Node i and its parts, which begin at the node given, are as many as the size says.
@@ -22,11 +22,18 @@ fn sized(i: usize, size: usize, from: Option<usize>) -> bool
     }
 }
 
-// Site s exists, and its flag is the one given.
-fn site_flagged(table: &Table, flag: usize, s: usize) -> bool
-    ensures { result ≡ site_flagged (view table.now.rows.now) flag s }
+// Site s exists, and a run makes its cells.
+fn is_fresh_site(table: &Table, s: usize) -> bool
+    ensures { result ≡ site_flagged (view table.now.rows.now) is_fresh s }
 {
-    s < table.sites && table.site_at(s).flag == flag
+    s < table.sites && table.site_at(s).flag == Flag::Fresh
+}
+
+// Site s exists, and is a channel.
+fn is_channel_site(table: &Table, s: usize) -> bool
+    ensures { result ≡ site_flagged (view table.now.rows.now) is_channel s }
+{
+    s < table.sites && table.site_at(s).flag == Flag::Channel
 }
 
 // The argument is one that a node of this kind may have.
@@ -36,8 +43,8 @@ fn lawful_argument(table: &Table, x: NodeRow) -> bool
     match x.kind {
         Kind::Literal => literal_fits(x.literal),
         Kind::Variable => x.argument < table.nodes,
-        Kind::New => site_flagged(table, 0, x.argument),
-        Kind::Channel => site_flagged(table, 1, x.argument),
+        Kind::New => is_fresh_site(table, x.argument),
+        Kind::Channel => is_channel_site(table, x.argument),
         Kind::Operation => x.argument < 6,
         Kind::Lambda | Kind::Application | Kind::Read | Kind::Write | Kind::Choice => {
             x.argument == 0
@@ -60,7 +67,7 @@ fn parts_begin(table: &Table, n: usize, e: usize) -> Option<usize>
     parts_begin(table, n - 1, e - size)
 }
 
-// Question 25, of node i.
+/// Question 25, of node i.
 pub fn lawful_node(table: &Table, i: usize) -> bool
     ensures { result ≡ lawful_node (view table.now.rows.now) i }
 {
@@ -71,7 +78,7 @@ pub fn lawful_node(table: &Table, i: usize) -> bool
         && sized(i, x.size, parts_begin(table, x.kind.parts(), i))
 }
 
-// Question 26, of node i.
+/// Question 26, of node i.
 pub fn bound(table: &Table, i: usize) -> bool
     ensures { result ≡ bound (view table.now.rows.now) i }
 {
@@ -79,7 +86,7 @@ pub fn bound(table: &Table, i: usize) -> bool
     match x.kind {
         Kind::Variable => {
             let f = table.node_at(x.argument);
-            matches!(f.kind, Kind::Lambda) && i < x.argument && x.argument - i < f.size
+            f.kind == Kind::Lambda && i < x.argument && x.argument - i < f.size
         }
         _ => true,
     }

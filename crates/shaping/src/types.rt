@@ -36,7 +36,7 @@ fn nests(table: &Table, n: usize, t: usize) -> bool
     }
 }
 
-// Question 23, of type t.
+/// Question 23, of type t.
 pub fn lawful_type(table: &Table, t: usize) -> bool
     ensures { result ≡ lawful_type (view table.now.rows.now) t }
 {

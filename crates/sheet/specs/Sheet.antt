@@ -37,6 +37,34 @@ natural (negsuc n) = 9223372036854775808
 abbrev pub form_of : ℕ → Form
 form_of n = cond (n == 0) form.Number (cond (n == 1) form.Function (cond (n == 2) form.Reference form.Unknown))
 
+-- the form is a number's
+abbrev pub is_number : Form → Bool
+is_number form.Number = true
+is_number form.Function = false
+is_number form.Reference = false
+is_number form.Unknown = false
+
+-- the form is a function's
+abbrev pub is_function : Form → Bool
+is_function form.Number = false
+is_function form.Function = true
+is_function form.Reference = false
+is_function form.Unknown = false
+
+-- the form is a reference's
+abbrev pub is_reference : Form → Bool
+is_reference form.Number = false
+is_reference form.Function = false
+is_reference form.Reference = true
+is_reference form.Unknown = false
+
+-- the form is not known
+abbrev pub is_unknown : Form → Bool
+is_unknown form.Number = false
+is_unknown form.Function = false
+is_unknown form.Reference = false
+is_unknown form.Unknown = true
+
 -- the flag of a site: 0 fresh, 1 channel
 abbrev pub flag_of : ℕ → Flag
 flag_of n = cond (n == 0) flag.Fresh (cond (n == 1) flag.Channel flag.Unknown)
