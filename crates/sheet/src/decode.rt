@@ -176,6 +176,7 @@ impl<'a> Table<'a> {
 
 impl Table<'_> {
     /// Type t.
+    #[tactic(auto, unfolding(crate::specs::Sheet::view))]
     pub fn type_at(&self, t: usize) -> TypeRow
         ensures { result ≡ (view self.now.rows.now).type t }
     {
@@ -183,6 +184,7 @@ impl Table<'_> {
     }
 
     /// Site s.
+    #[tactic(auto, unfolding(crate::specs::Sheet::view))]
     pub fn site_at(&self, s: usize) -> SiteRow
         ensures { result ≡ (view self.now.rows.now).site s }
     {
@@ -190,6 +192,7 @@ impl Table<'_> {
     }
 
     /// Node i.
+    #[tactic(auto, unfolding(crate::specs::Sheet::view))]
     pub fn node_at(&self, i: usize) -> NodeRow
         ensures { result ≡ (view self.now.rows.now).node i }
     {
@@ -197,6 +200,7 @@ impl Table<'_> {
     }
 
     /// Entry e.
+    #[tactic(auto, unfolding(crate::specs::Sheet::view))]
     pub fn entry_at(&self, e: usize) -> EntryRow
         ensures { result ≡ (view self.now.rows.now).entry e }
     {
