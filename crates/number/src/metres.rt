@@ -18,9 +18,12 @@ impl Number for Metres {
     ghost value = { λ m. m.length };
 
     fn from_whole(n: i32) -> Metres {
-        Metres { length: n as f64 }
+        Metres {
+            length: f64::from(n),
+        }
     }
 
+    #[tactic(auto, using(crate::proofs::Floats::equals_zero_lem))]
     fn is_zero(self) -> bool {
         self.length == 0.0
     }
@@ -49,12 +52,14 @@ impl Number for Metres {
         }
     }
 
+    #[tactic(auto, using(crate::proofs::Floats::whole_of_bool))]
     fn less(self, other: Metres) -> Metres {
         Metres {
             length: f64::from(self.length < other.length),
         }
     }
 
+    #[tactic(auto, using(crate::proofs::Floats::whole_of_bool))]
     fn equal(self, other: Metres) -> Metres {
         Metres {
             length: f64::from(self.length == other.length),

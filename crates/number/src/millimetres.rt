@@ -1,6 +1,5 @@
 //! Whole millimetres, in 32 bits with a sign. A result out of range is brought to its nearest end.
-ghost use Rattle.std.specs.Prelude.{◌≡◌};
-ghost use Rattle.std.specs.Prelude.{Some};
+ghost use Rattle.std.specs.Prelude.{◌≡◌, Some};
 ghost use Rattle.std.specs.Fmt.{signed_decimal, styled_signed_decimal};
 ghost use Rattle.number.specs.Millimetre.{millimetre_kind, divided};
 
