@@ -36,6 +36,7 @@ impl PairSet {
 }
 
 // Sets place `b` of a row.
+#[tactic(auto, using(crate::proofs::Filled::set_true))]
 fn mark(row: &mut [bool; 32], b: u32)
     requires { b < 32 }
     ensures { (y : ℕ) → slice_index_or row.new y false ≡ (y == b || slice_index_or row.old y false) }

@@ -55,13 +55,13 @@ impl Policy for Clearances {
 
     ghost flows = { clearances_flows };
 
-    ghost counted = { first_of (Prim.search rules, Prim.grind (arith, Self.row.coded.inj)) };
+    ghost counted = { Prim.search rules };
 
     ghost reflexive = { λ p a h. let own = and_self (compartments_of p a) in Prim.grind (arith, nat_tests) };
 
-    ghost sources = { first_of (Prim.search rules, Prim.grind (arith, Self.row.coded.inj)) };
+    ghost sources = { Prim.search rules };
 
-    ghost targets = { first_of (Prim.search rules, Prim.grind (arith, Self.row.coded.inj)) };
+    ghost targets = { Prim.search rules };
 
     fn labels(&self) -> u32 {
         self.count

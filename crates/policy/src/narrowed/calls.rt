@@ -1,7 +1,7 @@
 ghost use Rattle.std.specs.Prelude.{◌≡◌, ℕ, ◌<◌, false, MatchResult, ◌≢◌};
 ghost use Rattle.policy.specs.Narrowing.{Revokes, inner_of, narrowed_flows, narrowed_size, revoked_of, taken_of};
 ghost use Rattle.policy.specs.Refusals.{revoke_answer};
-ghost use Rattle.std.proofs.Common.{rules, arith};
+ghost use Rattle.std.proofs.Common.{rules};
 
 use super::Narrowed;
 use crate::pair_set::PairSet;
@@ -63,13 +63,13 @@ impl<P: Policy> Policy for Narrowed<P> {
 
     ghost flows = { narrowed_flows P.Policy.flows };
 
-    ghost counted = { first_of (Prim.search rules, Prim.grind (arith, Self.row.coded.inj)) };
+    ghost counted = { Prim.search rules };
 
-    ghost reflexive = { first_of (Prim.search rules, Prim.grind (arith, Self.row.coded.inj)) };
+    ghost reflexive = { Prim.search rules };
 
-    ghost sources = { first_of (Prim.search rules, Prim.grind (arith, Self.row.coded.inj)) };
+    ghost sources = { Prim.search rules };
 
-    ghost targets = { first_of (Prim.search rules, Prim.grind (arith, Self.row.coded.inj)) };
+    ghost targets = { Prim.search rules };
 
     fn labels(&self) -> u32 {
         self.inner.labels()

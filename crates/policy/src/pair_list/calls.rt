@@ -2,7 +2,7 @@ ghost use Rattle.std.specs.Prelude.{◌≡◌, ℕ, IfOk, MatchResult};
 ghost use Rattle.policy.specs.PairLists.{pair_list_flows, pair_list_size};
 ghost use Rattle.policy.specs.Refusals.{allow_answer, new_answer, outcome};
 ghost use Rattle.policy.specs.Relations.{only_self, with_pair};
-ghost use Rattle.std.proofs.Common.{rules, arith};
+ghost use Rattle.std.proofs.Common.{rules};
 
 use super::PairList;
 use crate::pair_set::PairSet;
@@ -40,13 +40,13 @@ impl Policy for PairList {
 
     ghost flows = { pair_list_flows };
 
-    ghost counted = { first_of (Prim.search rules, Prim.grind (arith, Self.row.coded.inj)) };
+    ghost counted = { Prim.search rules };
 
-    ghost reflexive = { first_of (Prim.search rules, Prim.grind (arith, Self.row.coded.inj)) };
+    ghost reflexive = { Prim.search rules };
 
-    ghost sources = { first_of (Prim.search rules, Prim.grind (arith, Self.row.coded.inj)) };
+    ghost sources = { Prim.search rules };
 
-    ghost targets = { first_of (Prim.search rules, Prim.grind (arith, Self.row.coded.inj)) };
+    ghost targets = { Prim.search rules };
 
     fn labels(&self) -> u32 {
         self.count
