@@ -1,10 +1,10 @@
 -- How a row's fields follow the grammar.
-use Rattle.std.proofs.Common.{◌≡◌, ℕ, ◌+◌, ◌-◌, ◌<◌, ◌≤◌, Bool, true, false, cond, ◌&&◌, eqb, List, [], ◌∷◌, length, take, drop, sym, refl, ap, ◌∙◌, arith, length-drop}
+use Rattle.std.proofs.Common.{◌≡◌, ℕ, ◌+◌, ◌-◌, ◌<◌, ◌≤◌, Bool, true, false, cond, ◌&&◌, eqb, List, [], ◌∷◌, length, take, drop, Some, Err, sym, refl, ap, ◌∙◌, arith, length-drop}
 use native.Mathlib.Decide.{dec_lt}
 use Rattle.std.proofs.lemmas.List.{drop_all, drop-drop}
 use Rattle.std.proofs.lemmas.Bool.Decides.{nat_tests}
 use Rattle.sheet_text.specs.declared.line.Line.{Line}
-use Rattle.sheet_text.specs.declared.reader.NextRow.TheVariants.{Misquoted}
+use Rattle.sheet_text.specs.declared.reader.Misquoted.{Misquoted}
 use Rattle.sheet_text.specs.Symbols.{symbols}
 use Rattle.sheet_text.specs.Grammar.{Rows, end, wrong, ◌then◌, front, field, rows}
 use Rattle.sheet_text.specs.declared.scan.Step.{Step}
@@ -25,10 +25,10 @@ after_front f wrong = refl
 after_front f (fs then rs) = refl
 
 -- rows whose first is misquoted are told no further
-pub misquoted : (l : Line) (rs : Rows) → next_after l rs ≡ Misquoted → rs ≡ wrong
-misquoted l end e = let z : ◌≡◌ {A = ℕ} 0 1 = cc in absurd (omega arith)
-misquoted l wrong e = refl
-misquoted l (fs then rs) e = let z : ◌≡◌ {A = ℕ} 0 1 = cc in absurd (omega arith)
+pub misquoted : (l : Line) (rs : Rows) (m : Misquoted) → next_after l rs ≡ Some (Err m) → rs ≡ wrong
+misquoted l end m e = cc
+misquoted l wrong m e = refl
+misquoted l (fs then rs) m e = cc
 
 -- where bytes follow, a row begins with a field
 pub rows_some : (cs : List ℕ) → 0 < length cs → rows (symbols cs) ≡ field (symbols cs)

@@ -2,7 +2,7 @@
 use Rattle.std.proofs.Common.{◌≡◌, ℕ, suc, ◌+◌, Bool, true, false, cond, List, Some, None, Ok, Err, Option, Result, sym, refl, ap, ◌∙◌, add-zero, zero-add, arith}
 use Rattle.sheet_text.specs.declared.line.Line.{Line}
 use Rattle.sheet_text.specs.declared.read.Faults.{Faults}
-use Rattle.sheet_text.specs.declared.reader.NextRow.TheVariants.{NoRow, Misquoted, Fields}
+use Rattle.sheet_text.specs.declared.reader.Misquoted.{Misquoted}
 use Rattle.sheet_text.specs.declared.refusal.Question.TheVariants.{Quoting, FieldCount, Letter, Number}
 use Rattle.sheet_text.specs.declared.refusal.Refusal.{Refusal}
 use Rattle.sheet_text.specs.Grammar.{Rows, end, wrong, ◌then◌}
@@ -59,16 +59,16 @@ judged_row f n fs rs =
     λ i. ask Quoting (on_further n (wrong_row rs) i) (ask FieldCount (a i) (ask Letter (b i) (ask Number (d i) (Ok (c i)))))
 
 -- the reader's next row is asked
-pub judged_next : (f : Faults) (n : ℕ) (rs : Rows) (l : Line) → Fields l ≡ next rs → judged_on f n rs ≡ judged_on (faults_with f l (n + 1)) (n + 1) (after rs)
-judged_next f n end l e = let z : ◌≡◌ {A = ℕ} 0 1 = cc in absurd (omega arith)
-judged_next f n wrong l e = let z : ◌≡◌ {A = ℕ} 0 1 = cc in absurd (omega arith)
+pub judged_next : (f : Faults) (n : ℕ) (rs : Rows) (l : Line) → Some (Ok l) ≡ next rs → judged_on f n rs ≡ judged_on (faults_with f l (n + 1)) (n + 1) (after rs)
+judged_next f n end l e = cc
+judged_next f n wrong l e = cc
 judged_next f n (fs then rs) l e = let g : l ≡ gathered blank fs = cc in rw g (judged_row f n fs rs)
 
 -- a row less is to come
-pub count_next : (rs : Rows) (l : Line) → Fields l ≡ next rs → count rs ≡ suc (count (after rs))
+pub count_next : (rs : Rows) (l : Line) → Some (Ok l) ≡ next rs → count rs ≡ suc (count (after rs))
 unfolding count
-count_next end l e = let z : ◌≡◌ {A = ℕ} 0 1 = cc in absurd (omega arith)
-count_next wrong l e = let z : ◌≡◌ {A = ℕ} 0 1 = cc in absurd (omega arith)
+count_next end l e = cc
+count_next wrong l e = cc
 count_next (fs then rs) l e = refl
 
 or_else_none : (o : Option ℕ) → or_else o None ≡ o
@@ -76,15 +76,15 @@ or_else_none None = refl
 or_else_none (Some k) = refl
 
 -- no row is left
-pub judged_end : (f : Faults) (n : ℕ) (rs : Rows) → NoRow ≡ next rs → judged_on f n rs ≡ faults_verdict f n
+pub judged_end : (f : Faults) (n : ℕ) (rs : Rows) → None ≡ next rs → judged_on f n rs ≡ faults_verdict f n
 unfolding wrong_row first_no count
 judged_end f n end e = simp (or_else_none, add-zero)
-judged_end f n wrong e = let z : ◌≡◌ {A = ℕ} 0 1 = cc in absurd (omega arith)
-judged_end f n (fs then rs) e = let z : ◌≡◌ {A = ℕ} 0 1 = cc in absurd (omega arith)
+judged_end f n wrong e = cc
+judged_end f n (fs then rs) e = cc
 
 -- the next row is misquoted
-pub judged_wrong : (f : Faults) (n : ℕ) (rs : Rows) → Misquoted ≡ next rs → judged_on f n rs ≡ Err (record { question = Quoting; row = n + 1 })
+pub judged_wrong : (f : Faults) (n : ℕ) (rs : Rows) (m : Misquoted) → Some (Err m) ≡ next rs → judged_on f n rs ≡ Err (record { question = Quoting; row = n + 1 })
 unfolding wrong_row
-judged_wrong f n end e = let z : ◌≡◌ {A = ℕ} 0 1 = cc in absurd (omega arith)
-judged_wrong f n wrong e = refl
-judged_wrong f n (fs then rs) e = let z : ◌≡◌ {A = ℕ} 0 1 = cc in absurd (omega arith)
+judged_wrong f n end m e = cc
+judged_wrong f n wrong m e = refl
+judged_wrong f n (fs then rs) m e = cc
