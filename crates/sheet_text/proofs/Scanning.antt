@@ -38,6 +38,11 @@ unfolding symbols
 symbols_plain c [] h = refl
 symbols_plain c (d ∷ ds) h = symbols_apart c d ds h
 
+-- one that ends a line with it ends it
+pub symbols_line_end : (c : ℕ) (cs : List ℕ) → (eqb c 13 && begins 10 cs) ≡ true → symbols (c ∷ cs) ≡ newline ∷ symbols (drop 1 cs)
+symbols_line_end c [] h = let z : (eqb c 13 && false) ≡ false = grind (arith, nat_tests) in cc
+symbols_line_end c (d ∷ ds) h = symbols_newline c d ds h
+
 -- a bare field takes a byte that does not end it
 pub bare_byte : (c : ℕ) (cs f : List ℕ) → ends_bare (c ∷ cs) ≡ false → bare (symbols (c ∷ cs)) f ≡ bare (symbols cs) (f ++ c ∷ [])
 unfolding bare

@@ -2,7 +2,7 @@ ghost use Rattle.std.specs.Prelude.{◌≡◌, length};
 ghost use Rattle.sheet_text.specs.Symbols.{symbols};
 ghost use Rattle.sheet_text.specs.Grammar.{rows};
 ghost use Rattle.sheet_text.specs.Questions.{judged, filled, reading, table_after};
-ghost use Rattle.sheet_text.specs.Rows.{no_faults, faults_with, faults_verdict};
+ghost use Rattle.sheet_text.specs.Rows.{faults_with, faults_verdict};
 
 use super::line::Line;
 use super::reader::Reader;
@@ -13,7 +13,7 @@ use sheet::Row;
 const LONGEST: usize = 60_000;
 
 // The first row at fault so far, by question.
-#[derive(Clone, Copy)]
+#[derive(Clone, Copy, Default)]
 struct Faults {
     field_count: Option<usize>,
     letter: Option<usize>,
@@ -21,16 +21,6 @@ struct Faults {
 }
 
 impl Faults {
-    fn none() -> Faults
-        ensures { result ≡ no_faults }
-    {
-        Faults {
-            field_count: None,
-            letter: None,
-            number: None,
-        }
-    }
-
     // With what is asked of one row more.
     fn with(self, line: Line, row: usize) -> Faults
         ensures { result ≡ faults_with self line row }
@@ -58,7 +48,7 @@ fn survey(input: &[u8]) -> Result<usize, Refusal>
     ensures { result ≡ judged (rows (symbols input.now)) }
 {
     let mut reader = Reader::new(input);
-    let mut faults = Faults::none();
+    let mut faults = Faults::default();
     while let Some(row) = reader.read_row() {
         let Ok(line) = row else {
             return Err(Question::Quoting.refused_at(reader.rows_read() + 1));
