@@ -1,16 +1,13 @@
 -- How a row's fields follow the grammar.
-use Rattle.std.proofs.Common.{◌≡◌, ℕ, ◌+◌, ◌-◌, ◌<◌, ◌≤◌, Bool, true, false, cond, ◌&&◌, eqb, List, [], ◌∷◌, length, take, drop, Some, Err, sym, refl, ap, ◌∙◌, arith, length-drop}
-use native.Mathlib.Decide.{dec_lt}
-use Rattle.std.proofs.lemmas.List.{drop_all, drop-drop}
-use Rattle.std.proofs.lemmas.Bool.Decides.{nat_tests}
+use Rattle.std.proofs.Common.{◌≡◌, ℕ, ◌<◌, ◌≤◌, Bool, true, false, ◌&&◌, eqb, List, [], ◌∷◌, length, drop, Some, Err, refl, arith, length-drop}
+use Rattle.std.proofs.lemmas.List.{drop_all}
 use Rattle.sheet_text.specs.declared.line.Line.{Line}
 use Rattle.sheet_text.specs.declared.reader.Misquoted.{Misquoted}
 use Rattle.sheet_text.specs.Symbols.{symbols}
-use Rattle.sheet_text.specs.Grammar.{Rows, end, wrong, ◌then◌, front, field, rows}
-use Rattle.sheet_text.specs.declared.scan.Step.{Step}
-use Rattle.sheet_text.specs.Lines.{begins, raw, continued, Stepped}
-use Rattle.sheet_text.specs.Rows.{taken, next_after, after}
-use Rattle.sheet_text.proofs.Scanning.{rest_is, symbols_plain, symbols_line_end}
+use Rattle.sheet_text.specs.Grammar.{Rows, end, wrong, ◌then◌, field, rows}
+use Rattle.sheet_text.specs.Lines.{begins}
+use Rattle.sheet_text.specs.Rows.{next_after}
+use Rattle.sheet_text.proofs.Scanning.{symbols_plain, symbols_line_end}
 
 -- rows whose first is misquoted are told no further
 pub misquoted : (l : Line) (rs : Rows) (m : Misquoted) → next_after l rs ≡ Some (Err m) → rs ≡ wrong
@@ -26,6 +23,9 @@ rows_some (c ∷ cs) h = go (eqb c 13 && begins 10 cs) refl
     go : (l : Bool) → (eqb c 13 && begins 10 cs) ≡ l → rows (symbols (c ∷ cs)) ≡ field (symbols (c ∷ cs))
     go false l = rw (symbols_plain c cs l) refl
     go true l = rw (symbols_line_end c cs l) refl
+
+pub rows_at : (xs : List ℕ) (n : ℕ) → n < length xs → rows (symbols (drop n xs)) ≡ field (symbols (drop n xs))
+rows_at xs n h = rows_some (drop n xs) (omega (arith, length-drop n xs))
 
 -- where nothing follows, there is no row
 pub rows_none : (xs : List ℕ) (n : ℕ) → length xs ≤ n → rows (symbols (drop n xs)) ≡ end

@@ -41,6 +41,7 @@ fn magnitude_of(digits: &[u8]) -> Option<u64>
     if digits.is_empty() || digits.len() > 10 {
         return None;
     }
+    // no fold: its closure would not know that ten digits fit
     let mut n: u64 = 0;
     for digit in digits {
         n = n * 10 + u64::from(char::from(*digit).to_digit(10)?);

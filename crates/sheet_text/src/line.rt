@@ -43,6 +43,7 @@ impl Line {
         let number = number_of(field);
         self.numeric &= number.is_some();
         self.fields = fields.min(6) + 1;
+        // by index, since of what `get_mut` lends a proof knows no element afterwards
         if fields <= self.values.len() {
             self.values[fields - 1] = number.unwrap_or(0);
         }

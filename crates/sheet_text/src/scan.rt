@@ -34,6 +34,7 @@ fn quoted_len(rest: &[u8]) -> Option<usize>
     ensures ends { IfSome result (λ n. begins 34 (drop (n + 1) rest.now) ≡ false) }
     ensures read { MatchOption result (quoted (symbols rest.now) [] ≡ wrong) (λ n. quoted (symbols rest.now) [] ≡ closed (symbols (drop (n + 1) rest.now)) (take n rest.now)) }
 {
+    // counted by hand, since two marks move it by two places, which no `for` does
     let mut n = 0;
     loop {
         match &rest[n..] {
@@ -64,7 +65,8 @@ fn mark_of(rest: &[u8]) -> Option<(Mark, usize)>
     }
 }
 
-// A field, what ends it, and how many bytes both are.
+// A field, what ends it, and how many bytes both are: a size, and not the rest of the text, since
+// the reader's place moves by it and each field tells its own.
 #[derive(Clone, Copy)]
 pub(crate) struct Step<'a> {
     pub(crate) field: Field<'a>,

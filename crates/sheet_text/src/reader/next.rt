@@ -14,6 +14,7 @@ fn read_fields(input: &[u8], start: usize) -> Result<(Line, usize), Misquoted>
     ensures { RowRead input.now start result }
 {
     let mut line = Line::blank();
+    // a place and not a slice that gets shorter, since each field tells its place in the input
     let mut at = start;
     loop {
         let step = next_field(&input[at..], at).ok_or(Misquoted)?;

@@ -1,4 +1,4 @@
-use Rattle.std.proofs.Common.{◌≡◌, ◌<◌, false, length, drop, sym, ap, ◌∙◌, arith}
+use Rattle.std.proofs.Common.{◌≡◌, false, drop, sym, ap, ◌∙◌}
 use Rattle.sheet_text.specs.Lines.{ends_bare}
 use Rattle.sheet_text.proofs.Scanning.{rest_is, bare_on}
 use Rattle.sheet_text.proofs.scan.bare_len.Goals as goal
