@@ -1,4 +1,4 @@
-use Rattle.std.proofs.Common.{◌≡◌, ℕ, suc, ◌+◌, ◌-◌, ◌≤◌, ap, ◌∙◌, arith}
+use Rattle.std.proofs.Common.{◌≡◌, ℕ, suc, ◌+◌, ◌-◌, ap, ◌∙◌, arith}
 use Rattle.stack.specs.Live.{live}
 use Rattle.machine.specs.Flat.{seek}
 use Rattle.machine.specs.Seen.{found, bindings}
@@ -10,26 +10,23 @@ loop-init g c =
     let m : c.args.scope - 0 ≡ c.args.scope = omega arith in
     ap (λ (x : ℕ). seek x (bindings g.K.Number.value (live c.args.bindings.now)) c.args.function c.args.scope) m
 
-pub returns-in_err-checked_sub : goal.returns-in_err-checked_sub
-returns-in_err-checked_sub g c =
-    let h : 1 ≤ c.loop.place → ⊥ = c.in_err-checked_sub.ensures in
-    let z : c.loop.place ≡ 0 = omega arith in
-    ap (found g.K.Number.value) c.from_residual.ensures
-    ∙ seek_empty g.K.Number.value _ c.args.function c.loop.place (bindings g.K.Number.value (live c.args.bindings.now)) z
+pub returns-then-place-eq0 : goal.returns-then-place-eq0
+returns-then-place-eq0 g c =
+    seek_empty g.K.Number.value _ c.args.function c.loop.place (bindings g.K.Number.value (live c.args.bindings.now)) c.if-place-eq0.true
     ∙ c.loop.invariant
 
 pub returns-in_err-binding : goal.returns-in_err-binding
 returns-in_err-binding g c =
     let m : c.args.scope - c.loop.counter ≡ suc (c.args.scope - (c.loop.counter + 1)) = omega arith in
-    let k : c.loop.place ≡ suc c.in_ok-checked_sub.field-0 = omega arith in
-    ap (found g.K.Number.value) c.from_residual-in_err-binding.ensures
+    let k : c.loop.place ≡ suc (c.loop.place - 1) = omega arith in
+    ap (found g.K.Number.value) c.from_residual.ensures
     ∙ seek_past g.K.Number.value _ _ c.args.function c.loop.place _ (live c.args.bindings.now) m k c.in_err-binding.ensures
     ∙ c.loop.invariant
 
 pub returns-then-binding-function : goal.returns-then-binding-function
 returns-then-binding-function g c =
     let m : c.args.scope - c.loop.counter ≡ suc (c.args.scope - (c.loop.counter + 1)) = omega arith in
-    let k : c.loop.place ≡ suc c.in_ok-checked_sub.field-0 = omega arith in
+    let k : c.loop.place ≡ suc (c.loop.place - 1) = omega arith in
     seek_here g.K.Number.value _ _ c.args.function c.loop.place _ (live c.args.bindings.now) c.in_ok-binding.binding m k
     c.in_ok-binding.ensures c.if-binding-function.true
     ∙ c.loop.invariant
@@ -37,7 +34,7 @@ returns-then-binding-function g c =
 pub loop-preserved : goal.loop-preserved
 loop-preserved g c =
     let m : c.args.scope - c.loop.counter ≡ suc (c.args.scope - (c.loop.counter + 1)) = omega arith in
-    let k : c.loop.place ≡ suc c.in_ok-checked_sub.field-0 = omega arith in
+    let k : c.loop.place ≡ suc (c.loop.place - 1) = omega arith in
     seek_on g.K.Number.value _ _ c.args.function c.loop.place _ (live c.args.bindings.now) c.in_ok-binding.binding m k
     c.in_ok-binding.ensures c.if-binding-function.false
     ∙ c.loop.invariant
