@@ -1,9 +1,9 @@
 // One step of the machine: a node is started, or a value comes back to the node that waits for it.
 ghost use Rattle.std.specs.Prelude.{◌≡◌, ℕ, List, [], ◌∷◌, ◌++◌, if◌then◌else◌};
-ghost use Rattle.stack.specs.Live.{live, room};
+ghost use Rattle.stack.specs.Live.{live, room, SameArea};
 ghost use Rattle.number.specs.Millimetre.{clamp};
 ghost use Rattle.sheet.specs.Sheet.{view, last_part, part};
-ghost use Rattle.evaluation.specs.Evaluation.{operation};
+ghost use Rattle.evaluation.specs.Evaluation.{operate_as};
 ghost use Rattle.machine.specs.Flat.{seek};
 ghost use Rattle.machine.specs.Seen.{found, bindings as bound};
 ghost use Rattle.machine.specs.Does.{HasPlace, Chosen, Created, ReadOut, Written, Applied, Combined, Started, Resumed};
@@ -11,7 +11,7 @@ ghost use Rattle.machine.specs.Does.{HasPlace, Chosen, Created, ReadOut, Written
 use super::values::{Binding, Cell, Frame, Next, Stage, Value};
 use evaluation::Stop;
 use number::Number;
-use sheet::{Kind, Table};
+use sheet::{Kind, Operator, Table};
 use stack::BoundedStack;
 
 // The whole number of 32 bits that is nearest to a literal.
@@ -51,7 +51,7 @@ fn pend<K: Number>(
     part: usize,
 ) -> Next<K>
     requires { HasPlace frames.old }
-    ensures places { room frames.new ≡ room frames.old }
+    ensures area { SameArea frames.old frames.new }
     ensures next { result ≡ Next.Start part scope }
     ensures held { live frames.new ≡ live frames.old ++ record { node = node; scope = scope; stage = stage } ∷ [] }
 {
@@ -102,7 +102,7 @@ fn choose<K: Number>(
     value: Value<K>,
 ) -> Result<Next<K>, Stop>
     requires { HasPlace frames.old }
-    ensures places { room frames.new ≡ room frames.old }
+    ensures area { SameArea frames.old frames.new }
     ensures step { Chosen K.Number.kind K.Number.value (view table.now.rows.now) node scope value (live frames.old) result (live frames.new) }
 {
     let part = branch(table, node, value.number_for(node)?);
@@ -116,7 +116,7 @@ fn create<K: Number>(
     node: usize,
     value: Value<K>,
 ) -> Result<Next<K>, Stop>
-    ensures places { room cells.new ≡ room cells.old }
+    ensures area { SameArea cells.old cells.new }
     ensures step { Created K.Number.kind K.Number.value (view table.now.rows.now) (room cells.old) node value (live cells.old) result (live cells.new) }
 {
     let address = cells.len();
@@ -147,7 +147,7 @@ fn write<K: Number>(
     target: Value<K>,
     value: Value<K>,
 ) -> Result<Next<K>, Stop>
-    ensures places { room cells.new ≡ room cells.old }
+    ensures area { SameArea cells.old cells.new }
     ensures step { Written K.Number.kind K.Number.value node target value (live cells.old) result (live cells.new) }
 {
     let address = target.address_for(node)?;
@@ -165,8 +165,8 @@ fn apply<K: Number>(
     value: Value<K>,
 ) -> Result<Next<K>, Stop>
     requires { HasPlace frames.old }
-    ensures frames_places { room frames.new ≡ room frames.old }
-    ensures bindings_places { room bindings.new ≡ room bindings.old }
+    ensures frames_area { SameArea frames.old frames.new }
+    ensures bindings_area { SameArea bindings.old bindings.new }
     ensures step { Applied K.Number.kind K.Number.value (room bindings.old) node callee value (live frames.old) (live bindings.old) result (live frames.new) (live bindings.new) }
 {
     let Value::Closure {
@@ -187,17 +187,17 @@ fn apply<K: Number>(
     Ok(pend(frames, node, scope, Stage::Passes, last_of(function)))
 }
 
-// The operation that the argument names.
-fn operate<K: Number>(argument: usize, a: K, b: K) -> K
-    ensures { K.Number.value result ≡ operation K.Number.kind argument (K.Number.value a) (K.Number.value b) }
+// What the operator makes of two numbers.
+fn operate<K: Number>(operator: Operator, a: K, b: K) -> K
+    ensures { K.Number.value result ≡ operate_as K.Number.kind operator (K.Number.value a) (K.Number.value b) }
 {
-    match argument {
-        0 => a.add(b),
-        1 => a.subtract(b),
-        2 => a.multiply(b),
-        3 => a.divide(b),
-        4 => a.less(b),
-        _ => a.equal(b),
+    match operator {
+        Operator::Add => a.add(b),
+        Operator::Subtract => a.subtract(b),
+        Operator::Multiply => a.multiply(b),
+        Operator::Divide => a.divide(b),
+        Operator::Less => a.less(b),
+        Operator::Equal => a.equal(b),
     }
 }
 
@@ -212,8 +212,8 @@ fn combine<K: Number>(
 {
     let a = left.number_for(node)?;
     let b = right.number_for(node)?;
-    let argument = table.node_at(node).argument;
-    Ok(Next::Return(Value::Number(operate(argument, a, b))))
+    let operator = Operator::from(table.node_at(node).argument);
+    Ok(Next::Return(Value::Number(operate(operator, a, b))))
 }
 
 // A node is started.
@@ -225,7 +225,7 @@ pub fn start<K: Number>(
     scope: usize,
 ) -> Result<Next<K>, Stop>
     requires { HasPlace frames.old }
-    ensures places { room frames.new ≡ room frames.old }
+    ensures area { SameArea frames.old frames.new }
     ensures step { Started K.Number.kind K.Number.value (view table.now.rows.now) node scope (live frames.old) (live bindings.now) result (live frames.new) }
 {
     let row = table.node_at(node);
@@ -257,9 +257,9 @@ pub fn resume<K: Number>(
     value: Value<K>,
 ) -> Result<Next<K>, Stop>
     requires { HasPlace frames.old }
-    ensures frames_places { room frames.new ≡ room frames.old }
-    ensures bindings_places { room bindings.new ≡ room bindings.old }
-    ensures cells_places { room cells.new ≡ room cells.old }
+    ensures frames_area { SameArea frames.old frames.new }
+    ensures bindings_area { SameArea bindings.old bindings.new }
+    ensures cells_area { SameArea cells.old cells.new }
     ensures step { Resumed K.Number.kind K.Number.value (view table.now.rows.now) (record { bindings = room bindings.entry.now; cells = room cells.old }) frame value (live frames.old) (live bindings.entry.now) (live cells.old) result (live frames.new) (live bindings.exit.now) (live cells.new) }
 {
     let Frame { node, scope, stage } = frame;

@@ -53,7 +53,7 @@ loop-next-preserved-in_ok-next-in-Start g c =
     let l : c.loop-next.steps < c.args.fuel = free.0 in
     record {
       counted = omega arith;
-      frames_places = c.in_ok-next-in-Start.ensures.places ∙ c.loop-next.invariant.frames_places;
+      frames_places = c.in_ok-next-in-Start.ensures.area.places ∙ c.loop-next.invariant.frames_places;
       bindings_places = c.loop-next.invariant.bindings_places;
       cells_places = c.loop-next.invariant.cells_places;
       rest =
@@ -70,7 +70,7 @@ resume-requires g c =
     let h : length (live c.loop-next.frames) ≤ room c.pop.new.self =
     let k = live_length c.loop-next.frames in
     let o = c.loop-next.frames.fits in
-    let p = c.in-Some.ensures.places in
+    let p = c.in-Some.ensures.area.places in
     omega arith in
     fewer _ _ c.in-Some.frame _ (whole _ _ _ c.in-Some.ensures.answer c.in-Some.ensures.held) h
 
@@ -102,9 +102,9 @@ loop-next-preserved g c =
     let popped = whole _ _ _ c.in-Some.ensures.answer c.in-Some.ensures.held in
     record {
       counted = c.loop-next.invariant.counted;
-      frames_places = c.in_ok-next-in-Some.ensures.frames_places ∙ c.in-Some.ensures.places ∙ c.loop-next.invariant.frames_places;
-      bindings_places = c.in_ok-next-in-Some.ensures.bindings_places ∙ c.loop-next.invariant.bindings_places;
-      cells_places = c.in_ok-next-in-Some.ensures.cells_places ∙ c.loop-next.invariant.cells_places;
+      frames_places = c.in_ok-next-in-Some.ensures.frames_area.places ∙ c.in-Some.ensures.area.places ∙ c.loop-next.invariant.frames_places;
+      bindings_places = c.in_ok-next-in-Some.ensures.bindings_area.places ∙ c.loop-next.invariant.bindings_places;
+      cells_places = c.in_ok-next-in-Some.ensures.cells_area.places ∙ c.loop-next.invariant.cells_places;
       rest =
           goes_return g.K.Number.kind (view c.args.table.now.rows.now) (record { bindings = room c.args.bindings.now; cells = room c.args.cells.now }) g.K.Number.value c.args.fuel (room c.args.frames.now) _ _ _ _ _ _ c.loop-next.invariant.rest
     c.in-Return.value (ap Ok c.in-Return.is) c.in-Some.frame _ _ popped (Ok c.in_ok-next-in-Some.next) _ _ _ (limits _ _ _ _ c.loop-next.invariant.bindings_places c.loop-next.invariant.cells_places) c.in_ok-next-in-Some.ensures.step (fewer _ _ c.in-Some.frame _ popped fits);
