@@ -1,4 +1,6 @@
 // One step of the machine: a node is started, or a value comes back to the node that waits for it.
+// The stacks are passed one by one and not as one struct: what a function is not given, it need not say
+// that it leaves alone.
 ghost use Rattle.std.specs.Prelude.{◌≡◌, ℕ, List, [], ◌∷◌, ◌++◌, if◌then◌else◌};
 ghost use Rattle.stack.specs.Live.{live, room, SameArea};
 ghost use Rattle.number.specs.Millimetre.{clamp};
@@ -231,10 +233,10 @@ pub fn start<K: Number>(
     let row = table.node_at(node);
     match row.kind {
         Kind::Literal => Ok(Next::Return(Value::Number(K::from_whole(whole_of(row.literal))))),
-        Kind::Variable => match look_up(bindings, row.argument, scope) {
-            Some(value) => Ok(Next::Return(value)),
-            None => Err(Stop::Stuck { node }),
-        },
+        Kind::Variable => {
+            let value = look_up(bindings, row.argument, scope).ok_or(Stop::Stuck { node })?;
+            Ok(Next::Return(value))
+        }
         Kind::Lambda => Ok(Next::Return(Value::Closure { node, scope })),
         Kind::Application => Ok(pend(frames, node, scope, Stage::Calls, middle_of(table, node))),
         Kind::New => Ok(pend(frames, node, scope, Stage::Creates, last_of(node))),
