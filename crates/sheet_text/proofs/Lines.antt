@@ -24,6 +24,7 @@ rows_some (c ∷ cs) h = go (eqb c 13 && begins 10 cs) refl
     go false l = rw (symbols_plain c cs l) refl
     go true l = rw (symbols_line_end c cs l) refl
 
+-- so it does where a place is within the text
 pub rows_at : (xs : List ℕ) (n : ℕ) → n < length xs → rows (symbols (drop n xs)) ≡ field (symbols (drop n xs))
 rows_at xs n h = rows_some (drop n xs) (omega (arith, length-drop n xs))
 

@@ -11,14 +11,16 @@ use Rattle.sheet_text.specs.Lines.{begins, ends_bare}
 pub rest_is : (n : ℕ) (xs : List ℕ) → take (length xs - n) (drop n xs) ≡ drop n xs
 rest_is n xs = between_to_end xs n (length xs) (le_refl _)
 
--- and its length and its bytes
 module _ (n : ℕ) (xs : List ℕ) where
+  -- how many bytes that is
   rest_length : length (take (length xs - n) (drop n xs)) ≡ length xs - n
   rest_length = ap length (rest_is n xs) ∙ length-drop n xs
 
+  -- the byte at a place of it
   rest_at : (k : ℕ) → get_or (take (length xs - n) (drop n xs)) k 0 ≡ get_or xs (n + k) 0
   rest_at k = ap (λ l. get_or l k 0) (rest_is n xs) ∙ get_or-drop n xs k 0
 
+  -- its first byte
   rest_first : get_or (take (length xs - n) (drop n xs)) 0 0 ≡ get_or xs n 0
   rest_first = rest_at 0 ∙ ap (λ k. get_or xs k 0) (add-zero n)
 

@@ -44,7 +44,10 @@ fn magnitude_of(digits: &[u8]) -> Option<u64>
     // no fold: its closure would not know that ten digits fit
     let mut n: u64 = 0;
     for digit in digits {
-        n = n * 10 + u64::from(char::from(*digit).to_digit(10)?);
+        if !digit.is_ascii_digit() {
+            return None;
+        }
+        n = n * 10 + u64::from(*digit - b'0');
     }
     Some(n)
 }
