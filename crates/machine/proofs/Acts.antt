@@ -1,44 +1,28 @@
 -- From what the calls of a step ensure to what the step does.
-use Rattle.std.proofs.Common.{◌≡◌, ℕ, zero, suc, ◌-◌, ◌<◌, Bool, true, false, cond, eqb, ltb, List, [], ◌∷◌, ◌++◌, length, set, Some, None, Option, Result, Ok, Err, sym, refl, ap, ◌∙◌, arith}
+use Rattle.std.proofs.Common.{◌≡◌, ℕ, zero, suc, Bool, cond, eqb, ltb, List, length, map, set, Some, None, Option, Ok, sym, refl, ap, ◌∙◌, arith}
 use lib.Seq.{map-set}
 use Rattle.std.specs.List.{slice_get}
-use Rattle.std.specs.Option.{ok_or}
+use Rattle.std.specs.Option.{option_map}
+use Rattle.std.proofs.lemmas.Option.{slice_get-map, slice_get_within}
 use Rattle.std.proofs.lemmas.Bool.{eq-eqb, ne_eqb, lt-ltb, cond-true, cond-false}
-use Rattle.number.specs.NumberKind.{NumberKind}
-use Rattle.sheet.specs.declared.decoded.Kind.{Kind}
-use Rattle.sheet.specs.Sheet.{Sheet, last_part, part}
-use Rattle.evaluation.specs.declared.ending.Stop.{Stop}
-use Rattle.evaluation.specs.declared.ending.Stop.TheVariants.{BindingsFull, CellsFull, Stuck}
 use Rattle.machine.specs.declared.values.Value.{Value}
 use Rattle.machine.specs.declared.values.Value.TheVariants.{Number, Closure, Reference}
 use Rattle.machine.specs.declared.values.Binding.{Binding}
 use Rattle.machine.specs.declared.values.Cell.{Cell}
 use Rattle.machine.specs.declared.values.Frame.{Frame}
-use Rattle.machine.specs.declared.values.Stage.{Stage}
-use Rattle.machine.specs.declared.values.Stage.TheVariants.{Passes}
-use Rattle.machine.specs.declared.values.Next.{Next}
-use Rattle.machine.specs.declared.values.Next.TheVariants.{Start as Starts}
 use Rattle.machine.specs.Wanted.{address_for}
-use Rattle.machine.specs.Flat.{Limits, seek, chain}
-use Rattle.machine.specs.Seen.{Machine, Start, Return, Halt, value, binding, cell, stage, frame, next, frames, bindings, cells}
-use Rattle.machine.specs.Steps.{at, framed, pends, gives, reads_at, reads, writes_at, writes, applies, creates, chooses, starts, resumes}
-use Rattle.machine.proofs.Lists.{nth_map, changed, map_top, map_length, length_top}
+use Rattle.machine.specs.Flat.{seek, chain}
+use Rattle.machine.specs.Seen.{Return, value, binding, cell, bindings, cells}
+use Rattle.machine.specs.Steps.{at, reads_at, reads, writes_at, writes}
 
--- an element that was read is in range
-below : {A : Type 0} (xs : List A) (i : ℕ) (x : A) → Some x ≡ slice_get xs i → i < length xs
-below [] i x e = let z : ◌≡◌ {A = ℕ} 0 1 = cc in absurd (omega arith)
-below (y ∷ xs) zero x e = omega arith
-below (y ∷ xs) (suc i) x e = let h = below xs i x e in omega arith
-
--- the element that `ok_or` gives on
-pub some_of : {A : Type 0} (x : A) (o p : Option A) (e : Stop) → Ok x ≡ ok_or o e → o ≡ p → Some x ≡ p
-some_of x None p e h q = let z : ◌≡◌ {A = ℕ} 0 1 = cc in absurd (omega arith)
-some_of x (Some y) p e h q = let z : x ≡ y = cc in ap Some z ∙ q
+-- the element that a function made
+made_at : {A B : Type 0} (f : A → B) (xs : List A) (i : ℕ) (o : Option A) → o ≡ slice_get xs i → slice_get (map f xs) i ≡ option_map f o
+made_at f xs i o e = slice_get-map f xs i ∙ ap (option_map f) (sym e)
 
 -- the value that has an address
 address_is : {K : Type 0} (i a : ℕ) (v : Value K) → Ok a ≡ address_for i v → v ≡ Reference a
-address_is i a (Number x) h = let z : ◌≡◌ {A = ℕ} 0 1 = cc in absurd (omega arith)
-address_is i a (Closure f k) h = let z : ◌≡◌ {A = ℕ} 0 1 = cc in absurd (omega arith)
+address_is i a (Number x) h = cc
+address_is i a (Closure f k) h = cc
 address_is i a (Reference b) h = let z : a ≡ b = cc in ap Reference (sym z)
 
 module _ {K V : Type 0} (n : K → V) where
@@ -49,7 +33,7 @@ module _ {K V : Type 0} (n : K → V) where
   read_some i a v x cs fs bs e r =
       sym (
       ap (λ (w : Value K). reads i (value n w) fs bs (cells n cs)) (address_is i a v e)
-      ∙ ap (λ (o : Option (Cell V)). reads_at i o fs bs (cells n cs)) (nth_map (cell n) cs a (Some x) r))
+      ∙ ap (λ (o : Option (Cell V)). reads_at i o fs bs (cells n cs)) (made_at (cell n) cs a (Some x) r))
 
   -- a cell is written
   pub write_some : (i a : ℕ) (t v : Value K) (x : Cell K) (cs after : List (Cell K)) (r : Bool) (fs : List (Frame V)) (bs : List (Binding V))
@@ -59,10 +43,10 @@ module _ {K V : Type 0} (n : K → V) where
   write_some i a t v x cs after r fs bs e q er ea =
       let y : Cell K = record { site = x.site; value = v } in
       ap (λ (l : List (Cell V)). at (Return (value n v)) fs bs l)
-      (ap (cells n) (ea ∙ cond-true r _ _ (er ∙ lt-ltb _ _ (below cs a x q))) ∙ map-set (cell n) cs a y)
+      (ap (cells n) (ea ∙ cond-true r _ _ (er ∙ lt-ltb _ _ (slice_get_within cs a x (sym q)))) ∙ map-set (cell n) cs a y)
       ∙ sym (
       ap (λ (w : Value K). writes i (value n w) (value n v) fs bs (cells n cs)) (address_is i a t e)
-      ∙ ap (λ (o : Option (Cell V)). writes_at i a (value n v) o fs bs (cells n cs)) (nth_map (cell n) cs a (Some x) q))
+      ∙ ap (λ (o : Option (Cell V)). writes_at i a (value n v) o fs bs (cells n cs)) (made_at (cell n) cs a (Some x) q))
 
   -- looking up the bindings: the empty environment, no binding left to look at, a place past the bindings
   pub seek_empty : (m f k : ℕ) (bs : List (Binding V)) → k ≡ 0 → None ≡ seek m bs f k
@@ -77,11 +61,11 @@ module _ {K V : Type 0} (n : K → V) where
   -- one binding up
   seek_at : (m l f k j : ℕ) (bs : List (Binding K)) (o : Option (Binding K)) → m ≡ suc l → k ≡ suc j → o ≡ slice_get bs j
       → seek m (bindings n bs) f k
-      ≡ chain (changed (binding n) o) (λ b. cond (eqb f b.function) (Some b.value) (seek l (bindings n bs) f b.outer))
+      ≡ chain (option_map (binding n) o) (λ b. cond (eqb f b.function) (Some b.value) (seek l (bindings n bs) f b.outer))
   seek_at m l f k j bs o em ek e =
       ap (λ (x : ℕ). seek x (bindings n bs) f k) em
       ∙ ap (λ (x : ℕ). seek (suc l) (bindings n bs) f x) ek
-      ∙ ap (λ (z : Option (Binding V)). chain z (λ b. cond (eqb f b.function) (Some b.value) (seek l (bindings n bs) f b.outer))) (nth_map (binding n) bs j o e)
+      ∙ ap (λ (z : Option (Binding V)). chain z (λ b. cond (eqb f b.function) (Some b.value) (seek l (bindings n bs) f b.outer))) (made_at (binding n) bs j o e)
 
   pub seek_past : (m l f k j : ℕ) (bs : List (Binding K)) → m ≡ suc l → k ≡ suc j → None ≡ slice_get bs j → None ≡ seek m (bindings n bs) f k
   seek_past m l f k j bs em ek e = sym (seek_at m l f k j bs None em ek e)

@@ -1,5 +1,6 @@
 -- A turn of the loop, in what the program holds.
 use Rattle.std.proofs.Common.{◌≡◌, ℕ, suc, ◌+◌, ◌<◌, ◌≤◌, Bool, true, false, eqb, leb, List, [], ◌∷◌, ◌++◌, length, Result, Ok, Err, IsErrAnd, sym, ap, ◌∙◌, subst, ⊎_elim, add-one, arith}
+use Rattle.std.proofs.lemmas.List.{length-map, map-append}
 use Rattle.std.proofs.lemmas.Bool.{eq-eqb, ne_eqb, cases_Bool, eqb-true, eqb-false, leb-true, leb-false}
 use Rattle.number.specs.NumberKind.{NumberKind}
 use Rattle.machine.specs.declared.values.Value.{Value}
@@ -14,7 +15,6 @@ use Rattle.sheet.specs.Sheet.{Sheet}
 use Rattle.machine.specs.Flat.{Limits, FlatOutcome, flat_done, flat_stopped, flat_eval}
 use Rattle.machine.specs.Seen.{Machine, Start, Return, value, stage, frame, next, frames, bindings, cells, machine, flat, ended}
 use Rattle.machine.specs.Steps.{at, admitted, starts, resumes}
-use Rattle.machine.proofs.Lists.{map_top, map_length}
 use Rattle.machine.proofs.Finish.{finish, started, returned, out_of_fuel, out_of_places, stopping, returning, beginning}
 use Rattle.machine.proofs.Weigh.{weigh, lighter_started, lighter_returned}
 
@@ -23,7 +23,7 @@ err_is : {A : Type 0} (a b : Stop) → ◌≡◌ {A = Result A Stop} (Err a) (Er
 err_is a b e = cc
 
 ok_err : {A B : Type 0} (x : A) (a : Stop) → Ok x ≡ Err a → B
-ok_err x a e = let z : ◌≡◌ {A = ℕ} 0 1 = cc in absurd (omega arith)
+ok_err x a e = cc
 
 -- the error that a `?` passes on
 passed_on : {A : Type 0} (r : Result A Stop) (e : Stop) → IsErrAnd r (λ y. y ≡ e) → r ≡ Err e
@@ -65,7 +65,7 @@ module _ {K : Type 0} (M : NumberKind) (S : Sheet) (L : Limits) (n : K → M.Val
 
     pub ends_full : (i k : ℕ) → x ≡ Ok (Starts i k) → (t ≡ fuel → ⊥) → d ≤ length fs → flat_stopped PendingFull t ≡ o
     ends_full i k e h l =
-        let q : length (frames n fs) ≡ length fs = map_length (frame n) fs in
+        let q : length (frames n fs) ≡ length fs = length-map fs (frame n) in
         out_of_places M S L fuel d i k (frames n fs) (bindings n bs) (cells n cs) t (omega arith) (ne_eqb _ _ h)
         ∙ ap (λ (y : Result (Next K) Stop). finish M S L fuel d (machine n y fs bs cs) t) (sym e) ∙ inv
 
@@ -103,7 +103,7 @@ module _ {K : Type 0} (M : NumberKind) (S : Sheet) (L : Limits) (n : K → M.Val
         (step : at (next n r) (frames n after) (bindings n bs) (cells n cs) ≡ starts M S (S.node i).kind i k (frames n fs) (bindings n bs) (cells n cs)) where
       pub goes_start : t < fuel → length fs < d → finish M S L fuel d (machine n r after bs cs) (t + 1) ≡ o
       goes_start h l =
-          let q : length (frames n fs) ≡ length fs = map_length (frame n) fs in
+          let q : length (frames n fs) ≡ length fs = length-map fs (frame n) in
           ap (λ (y : ℕ). finish M S L fuel d (machine n r after bs cs) y) (add-one t)
           ∙ ap (λ (m : Machine V). finish M S L fuel d m (suc t)) step
           ∙ started M S L fuel d i k (frames n fs) (bindings n bs) (cells n cs) t (omega arith) (ne_eqb _ _ (λ (z : t ≡ fuel). omega arith))
@@ -130,12 +130,12 @@ module _ {K : Type 0} (M : NumberKind) (S : Sheet) (L : Limits) (n : K → M.Val
 
       here : at (Return (value n v)) (frames n low ++ (frame n f ∷ [])) (bindings n bs) (cells n cs) ≡ machine n x fs bs cs
       here =
-          ap (λ (l : List (Frame V)). at (Return (value n v)) l (bindings n bs) (cells n cs)) (sym (ap (frames n) popped ∙ map_top (frame n) low f))
+          ap (λ (l : List (Frame V)). at (Return (value n v)) l (bindings n bs) (cells n cs)) (sym (ap (frames n) popped ∙ map-append (frame n) low (f ∷ [])))
           ∙ ap (λ (y : Result (Next K) Stop). machine n y fs bs cs) (sym e)
 
       pub goes_return : length low < d → finish M S L fuel d (machine n r after bs' cs') t ≡ o
       goes_return l =
-          let q : length (frames n low) ≡ length low = map_length (frame n) low in
+          let q : length (frames n low) ≡ length low = length-map low (frame n) in
           ap (λ (m : Machine V). finish M S L fuel d m t) step
           ∙ returned M S L fuel d (frame n f) (value n v) (frames n low) (bindings n bs) (cells n cs) t (omega arith)
           ∙ ap (λ (m : Machine V). finish M S L fuel d m t) here ∙ inv
