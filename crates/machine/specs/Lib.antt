@@ -2,3 +2,4 @@ pub mod Flat
 pub mod Seen
 pub mod Steps
 pub mod Does
+pub mod Areas
