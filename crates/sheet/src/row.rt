@@ -1,6 +1,6 @@
-// A row as it was handed in: any letter, any five whole numbers. What a letter and its numbers
-// mean, and which of them are lawful, is asked later.
-#[derive(Clone, Copy, PartialEq, Debug)]
+/// A row as it was handed in: any letter, any five whole numbers. What a letter and its numbers
+/// mean, and which of them are lawful, is asked later.
+#[derive(Clone, Copy, Debug, PartialEq, Eq)]
 pub struct Row {
     pub letter: char,
     pub a: i64,
