@@ -1,10 +1,8 @@
 // A run of an entry: copies of the channels' numbers go into the cells of the sites, the machine runs
 // over them, and the numbers go back only where the run ended in a number.
-ghost use Rattle.std.specs.Prelude.{◌≡◌, ◌≤◌, true, [], map, length, pos};
+ghost use Rattle.std.specs.Prelude.{◌≡◌, ◌≤◌, [], map, length, pos};
 ghost use Rattle.stack.specs.Live.{live, room};
-ghost use Rattle.sheet.specs.Asked.{passed};
 ghost use Rattle.sheet.specs.Sheet.{view};
-ghost use Rattle.shaping.specs.Verdict.{shape_verdict};
 ghost use Rattle.evaluation.specs.Runs.{run as outcome, run_report, «numbers_after»};
 ghost use Rattle.machine.specs.Areas.{SameLoans};
 ghost use Rattle.evaluator.specs.Runs.{reported, concluded, opened, padded, HasRoom, «number_in», taken, kept};
@@ -13,7 +11,7 @@ use super::report::Report;
 use evaluation::Ending;
 use machine::{Cell, Outcome, Value, WorkAreas, run};
 use number::Number;
-use sheet::Table;
+use shaping::Shaped;
 use stack::BoundedStack;
 
 // A cell for each site, with the site's number; the sites past the numbers begin at `zero`.
@@ -37,8 +35,7 @@ fn number_in<K: Number>(value: Value<K>, old: K) -> K
 {
     match value {
         Value::Number(number) => number,
-        Value::Closure { node: _, scope: _ } => old,
-        Value::Reference(_) => old,
+        Value::Closure { .. } | Value::Reference(_) => old,
     }
 }
 
@@ -100,18 +97,18 @@ pub fn conclude<K: Number>(outcome: Outcome<K>) -> Report<K>
 
 // Runs an entry of a shaped sheet whose first sites hold the numbers given, and whose others hold 0.
 pub(crate) fn run_entry<K: Number>(
-    table: &Table,
+    sheet: &Shaped,
     numbers: &mut [K],
     areas: &mut WorkAreas<K>,
     entry: usize,
     fuel: usize,
 ) -> Report<K>
-    requires shaped { passed (shape_verdict table.now.rows.now) ≡ true }
-    requires areas { HasRoom (view table.now.rows.now) areas.old }
-    ensures answer { let S = view table.now.rows.now in let ns = padded S.sites (K.Number.kind.whole (pos 0)) (map K.Number.value numbers.old) in reported K.Number.value result ≡ run_report K.Number.kind S fuel entry ns }
-    ensures left { let S = view table.now.rows.now in let ns = padded S.sites (K.Number.kind.whole (pos 0)) (map K.Number.value numbers.old) in map K.Number.value numbers.new ≡ numbers_after (outcome K.Number.kind S fuel entry ns) (map K.Number.value numbers.old) }
+    requires areas { HasRoom (view sheet.now.table.rows.now) areas.old }
+    ensures answer { let S = view sheet.now.table.rows.now in let ns = padded S.sites (K.Number.kind.whole (pos 0)) (map K.Number.value numbers.old) in reported K.Number.value result ≡ run_report K.Number.kind S fuel entry ns }
+    ensures left { let S = view sheet.now.table.rows.now in let ns = padded S.sites (K.Number.kind.whole (pos 0)) (map K.Number.value numbers.old) in map K.Number.value numbers.new ≡ numbers_after (outcome K.Number.kind S fuel entry ns) (map K.Number.value numbers.old) }
     ensures loans { SameLoans areas.old areas.new }
 {
+    let table = &sheet.table;
     let root = table.entry_at(entry).root;
     let mut frames = BoundedStack::new(&mut areas.pending[0..1024]);
     let mut bindings = BoundedStack::new(&mut areas.bound[0..1024]);
@@ -126,18 +123,17 @@ pub(crate) fn run_entry<K: Number>(
 // sites hold after it, is what the definition says. Both depend on the sheet, the entry, the fuel and
 // the numbers alone, so on nothing that the work areas held before.
 pub fn evaluate<K: Number>(
-    table: &Table,
+    sheet: &Shaped,
     numbers: &mut [K],
     areas: &mut WorkAreas<K>,
     entry: usize,
     fuel: usize,
 ) -> Report<K>
-    requires shaped { passed (shape_verdict table.now.rows.now) ≡ true }
-    requires numbers { length numbers.old ≡ (view table.now.rows.now).sites }
-    requires areas { HasRoom (view table.now.rows.now) areas.old }
-    ensures answer { reported K.Number.value result ≡ run_report K.Number.kind (view table.now.rows.now) fuel entry (map K.Number.value numbers.old) }
-    ensures left { map K.Number.value numbers.new ≡ numbers_after (outcome K.Number.kind (view table.now.rows.now) fuel entry (map K.Number.value numbers.old)) (map K.Number.value numbers.old) }
+    requires numbers { length numbers.old ≡ (view sheet.now.table.rows.now).sites }
+    requires areas { HasRoom (view sheet.now.table.rows.now) areas.old }
+    ensures answer { reported K.Number.value result ≡ run_report K.Number.kind (view sheet.now.table.rows.now) fuel entry (map K.Number.value numbers.old) }
+    ensures left { map K.Number.value numbers.new ≡ numbers_after (outcome K.Number.kind (view sheet.now.table.rows.now) fuel entry (map K.Number.value numbers.old)) (map K.Number.value numbers.old) }
     ensures loans { SameLoans areas.old areas.new }
 {
-    run_entry(table, numbers, areas, entry, fuel)
+    run_entry(sheet, numbers, areas, entry, fuel)
 }

@@ -48,11 +48,10 @@ pub fn trial<K: Number>(
     fuel: usize,
     areas: &mut WorkAreas<K>,
 ) -> Result<Report<K>, Refusal>
-    ensures answer { answered K.Number.value result ≡ trial_answer K.Number.kind (view sheet.now.rows.now) entry fuel (length areas.old.pending.now) (length areas.old.bound.now) (length areas.old.held.now) }
+    ensures answer { answered K.Number.value result ≡ trial_answer K.Number.kind (view sheet.now.table.rows.now) entry fuel (length areas.old.pending.now) (length areas.old.bound.now) (length areas.old.held.now) }
     ensures areas_left { LeftAlone result areas.old areas.new }
     ensures loans { SameLoans areas.old areas.new }
 {
-    let table = Table::new(sheet.rows);
-    check(&table, entry, fuel, areas)?;
-    Ok(run_entry(&table, &mut [], areas, entry, fuel))
+    check(&sheet.table, entry, fuel, areas)?;
+    Ok(run_entry(sheet, &mut [], areas, entry, fuel))
 }

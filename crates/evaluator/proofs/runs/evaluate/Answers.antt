@@ -9,7 +9,7 @@ use Rattle.evaluator.proofs.runs.evaluate.Goals as goal
 pub returns : goal.returns
 returns g c =
     let M = g.K.Number.kind in
-    let S = view c.args.table.now.rows.now in
+    let S = view c.args.sheet.now.table.rows.now in
     let ns : List M.Value = map g.K.Number.value c.args.numbers.now in
     let all : padded S.sites (M.whole (pos 0)) ns ≡ ns =
     padded_full S.sites (M.whole (pos 0)) ns (length-map c.args.numbers.now g.K.Number.value ∙ c.requires.numbers) in

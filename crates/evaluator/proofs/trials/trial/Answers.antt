@@ -10,4 +10,4 @@ returns-clause-answer g c =
     let M = g.K.Number.kind in
     let S = view c.args.sheet.now.table.rows.now in
     ap Ok (c.run_entry.ensures.answer ∙ ap (run_report M S c.args.fuel c.args.entry) (padded_none S.sites (M.whole (pos 0))))
-    ∙ ap (λ v. granted v (trial_report M S c.args.fuel c.args.entry)) (sym (c.in_ok-check.was tt) ∙ c.check.ensures)
+    ∙ ap (λ v. granted v (trial_report M S c.args.fuel c.args.entry)) (sym c.in_ok-check.was ∙ c.check.ensures)
