@@ -54,6 +54,7 @@ fn lawful_argument(table: &Table, x: NodeRow) -> bool
 }
 
 // Where the first of n parts begins, if the last one ends just before node e.
+#[tactic(auto, using(crate::proofs::Levels::begin_none, crate::proofs::Levels::begin_step))]
 fn parts_begin(table: &Table, n: usize, e: usize) -> Option<usize>
     ensures { result ≡ parts_begin (view table.now.rows.now) n e }
 {

@@ -18,6 +18,7 @@ fn lawful_fields(sites: usize, x: &TypeRow) -> bool
 }
 
 // Type t is nested at most n deep; its part types have lower numbers.
+#[tactic(auto, using(crate::proofs::Levels::nests_none, crate::proofs::Levels::nests_step))]
 fn nests(table: &Table, n: usize, t: usize) -> bool
     ensures { result ≡ nests (view table.now.rows.now) n t }
 {

@@ -7,8 +7,8 @@ use Rattle.sheet.specs.declared.decoded.Form.{Form}
 use Rattle.sheet.specs.declared.decoded.Form.TheVariants as form
 use Rattle.sheet.specs.declared.decoded.Flag.{Flag}
 use Rattle.sheet.specs.declared.decoded.Flag.TheVariants as flag
-use Rattle.sheet.specs.declared.decoded.Operation.{Operation}
-use Rattle.sheet.specs.declared.decoded.Operation.TheVariants as operation
+use Rattle.sheet.specs.declared.decoded.Operator.{Operator}
+use Rattle.sheet.specs.declared.decoded.Operator.TheVariants as operator
 use Rattle.sheet.specs.declared.decoded.Kind.{Kind}
 use Rattle.sheet.specs.declared.decoded.Kind.TheVariants as kind
 use Rattle.sheet.specs.declared.decoded.TypeRow.{TypeRow}
@@ -82,10 +82,10 @@ is_channel flag.Channel = true
 is_channel flag.Unknown = false
 
 -- an operation: 0 add, 1 subtract, 2 multiply, 3 divide, 4 less, 5 equal; a number past these reads as the last
-abbrev pub operation_of : ℕ → Operation
-operation_of n =
-    cond (n == 0) operation.Add (cond (n == 1) operation.Subtract (cond (n == 2) operation.Multiply
-    (cond (n == 3) operation.Divide (cond (n == 4) operation.Less operation.Equal))))
+abbrev pub operator_of : ℕ → Operator
+operator_of n =
+    cond (n == 0) operator.Add (cond (n == 1) operator.Subtract (cond (n == 2) operator.Multiply
+    (cond (n == 3) operator.Divide (cond (n == 4) operator.Less operator.Equal))))
 
 -- the kind of a node: 0 literal, 1 variable, 2 lambda, 3 application, 4 new, 5 channel, 6 read, 7 write, 8 choice, 9 operation
 abbrev pub kind_of : ℕ → Kind

@@ -1,8 +1,8 @@
 // The sheet read off the rows, a row at a time.
 ghost use Rattle.std.specs.Prelude.{◌≡◌, ◌+◌, ◌≤◌, length};
-ghost use Rattle.sheet.specs.Sheet.{natural, form_of, flag_of, kind_of, operation_of, type_of, site_of, node_of, entry_of, row_at, count, view, parts_of, part_before};
+ghost use Rattle.sheet.specs.Sheet.{natural, form_of, flag_of, kind_of, operator_of, type_of, site_of, node_of, entry_of, row_at, count, view, parts_of, part_before};
 
-use super::decoded::{EntryRow, Flag, Form, Kind, NodeRow, Operation, SiteRow, TypeRow};
+use super::decoded::{EntryRow, Flag, Form, Kind, NodeRow, Operator, SiteRow, TypeRow};
 use super::row::Row;
 use super::table::Table;
 
@@ -71,17 +71,17 @@ impl From<usize> for Kind {
     }
 }
 
-impl From<usize> for Operation {
-    ghost from_gives = { λ n operation. operation ≡ operation_of n };
+impl From<usize> for Operator {
+    ghost from_gives = { λ n operator. operator ≡ operator_of n };
 
-    fn from(n: usize) -> Operation {
+    fn from(n: usize) -> Operator {
         match n {
-            0 => Operation::Add,
-            1 => Operation::Subtract,
-            2 => Operation::Multiply,
-            3 => Operation::Divide,
-            4 => Operation::Less,
-            _ => Operation::Equal,
+            0 => Operator::Add,
+            1 => Operator::Subtract,
+            2 => Operator::Multiply,
+            3 => Operator::Divide,
+            4 => Operator::Less,
+            _ => Operator::Equal,
         }
     }
 }
@@ -176,6 +176,7 @@ impl<'a> Table<'a> {
 
 impl Table<'_> {
     /// Type t.
+    #[tactic(auto, unfolding(crate::specs::Sheet::view))]
     pub fn type_at(&self, t: usize) -> TypeRow
         ensures { result ≡ (view self.now.rows.now).type t }
     {
@@ -183,6 +184,7 @@ impl Table<'_> {
     }
 
     /// Site s.
+    #[tactic(auto, unfolding(crate::specs::Sheet::view))]
     pub fn site_at(&self, s: usize) -> SiteRow
         ensures { result ≡ (view self.now.rows.now).site s }
     {
@@ -190,6 +192,7 @@ impl Table<'_> {
     }
 
     /// Node i.
+    #[tactic(auto, unfolding(crate::specs::Sheet::view))]
     pub fn node_at(&self, i: usize) -> NodeRow
         ensures { result ≡ (view self.now.rows.now).node i }
     {
@@ -197,6 +200,7 @@ impl Table<'_> {
     }
 
     /// Entry e.
+    #[tactic(auto, unfolding(crate::specs::Sheet::view))]
     pub fn entry_at(&self, e: usize) -> EntryRow
         ensures { result ≡ (view self.now.rows.now).entry e }
     {

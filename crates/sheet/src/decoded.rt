@@ -37,7 +37,7 @@ pub enum Kind {
 
 /// What an operation does with its two numbers: 0 to 5 in a row. A number past these reads as the last.
 #[derive(Clone, Copy, Debug, PartialEq, Eq)]
-pub enum Operation {
+pub enum Operator {
     Add,
     Subtract,
     Multiply,
