@@ -135,9 +135,9 @@ impl<'s, 'c, K: Number> Station<'s, 'c, K> {
         ensures loans { SameLoans areas.old areas.new }
     {
         self.ask_run(seat, entry, fuel, areas)?;
-        let shaped = &self.sheet.shaped;
+        let sheet = &self.sheet;
         let channels = &mut *self.channels;
-        let numbers = &mut channels[0..shaped.table.sites];
-        Ok(evaluate(shaped, numbers, areas, entry, fuel))
+        let numbers = &mut channels[0..sheet.shaped.table.sites];
+        Ok(evaluate(&sheet.shaped, numbers, areas, entry, fuel))
     }
 }
