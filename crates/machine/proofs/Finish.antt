@@ -11,13 +11,11 @@ use Rattle.machine.specs.declared.values.Cell.{Cell}
 use Rattle.machine.specs.declared.values.Frame.{Frame}
 use Rattle.machine.specs.declared.values.Stage.{Stage}
 use Rattle.machine.specs.declared.values.Stage.TheVariants.{Chooses, Creates, Reads, Calls, Applies, Targets, Writes, Operates, Combines, Passes}
-use Rattle.machine.specs.declared.values.Next.{Next}
-use Rattle.machine.specs.declared.values.Next.TheVariants.{Start, Return, Halt}
 use Rattle.evaluation.specs.declared.ending.Stop.{Stop}
 use Rattle.evaluation.specs.declared.ending.Stop.TheVariants.{FuelSpent, PendingFull, BindingsFull, CellsFull}
 use Rattle.sheet.specs.Sheet.{Sheet, last_part, part}
 use Rattle.machine.specs.Flat.{Limits, FlatState, FlatOutcome, flat_done, flat_stopped, FlatEvaluator, seek, flat_then, flat_provided, one_step, flat_found, flat_loaded, flat_load, flat_stored, flat_store, flat_apply, flat_create, flat_choose, flat_operate, flat_by_kind, flat_eval}
-use Rattle.machine.specs.Seen.{Machine}
+use Rattle.machine.specs.Seen.{Machine, Turn, Start, Return, Halt}
 use Rattle.machine.specs.Steps.{at, framed, pends, gives, halts, looks, reads_at, reads, writes_at, writes, applies, creates, chooses, combines, starts, resumes}
 use Rattle.machine.proofs.Lists.{length_top}
 
@@ -55,7 +53,7 @@ module _ (M : NumberKind) (S : Sheet) (L : Limits) (fuel : ℕ) where
   unwind zero (f ∷ fs) o = o
   unwind (suc d) (f ∷ fs) o = resumed (flat_eval M S L fuel d) f (unwind d fs o)
 
-  abbrev pub going : Next V → ℕ → FlatState V → FlatOutcome V
+  abbrev pub going : Turn V → ℕ → FlatState V → FlatOutcome V
   going (Start i k) d s = flat_eval M S L fuel d i k s
   going (Return v) d s = flat_done v s
   going (Halt e) d s = flat_stopped e s.steps

@@ -1,3 +1,4 @@
+pub mod Wanted
 pub mod Flat
 pub mod Seen
 pub mod Steps

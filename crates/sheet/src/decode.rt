@@ -6,16 +6,6 @@ use super::decoded::{EntryRow, Flag, Form, Kind, NodeRow, Operator, SiteRow, Typ
 use super::row::Row;
 use super::table::Table;
 
-// Stands for a row that there is none of.
-const NO_ROW: Row = Row {
-    letter: '\0',
-    a: 0,
-    b: 0,
-    c: 0,
-    d: 0,
-    e: 0,
-};
-
 // Where a number that counts from 0 is asked for, one below zero is past every limit.
 const PAST_EVERY_LIMIT: usize = 1 << 63;
 
@@ -149,7 +139,7 @@ fn row_at(rows: &[Row], b: usize, n: usize, k: usize) -> Row
     requires { b + n ≤ length rows.now }
     ensures { result ≡ row_at rows.now b n k }
 {
-    if k < n { rows[b + k] } else { NO_ROW }
+    if k < n { rows[b + k] } else { Row::BLANK }
 }
 
 // How many rows have the letter.

@@ -9,3 +9,15 @@ pub struct Row {
     pub d: i64,
     pub e: i64,
 }
+
+impl Row {
+    /// No letter and zeros: stands for a row that there is none of.
+    pub const BLANK: Row = Row {
+        letter: '\0',
+        a: 0,
+        b: 0,
+        c: 0,
+        d: 0,
+        e: 0,
+    };
+}

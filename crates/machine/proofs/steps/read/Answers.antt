@@ -1,8 +1,5 @@
-use Rattle.machine.proofs.Acts.{read_some, read_none}
+use Rattle.machine.proofs.Acts.{read_some, some_of}
 use Rattle.machine.proofs.steps.read.Goals as goal
 
-pub returns-in-Some : goal.returns-in-Some
-returns-in-Some g c fs bs = read_some g.K.Number.value _ _ _ _ _ fs bs c.in-Reference.is c.in-Some.ensures
-
-pub returns-in-None : goal.returns-in-None
-returns-in-None g c fs bs = read_none g.K.Number.value _ _ _ _ fs bs c.in-Reference.is c.in-None.ensures
+pub returns : goal.returns
+returns g c fs bs = read_some g.K.Number.value _ _ _ _ _ fs bs c.in_ok-address.ensures (some_of _ _ _ _ c.in_ok-cell.ensures.value c.get.ensures)
