@@ -3,3 +3,4 @@ pub mod Flat
 pub mod Seen
 pub mod Steps
 pub mod Does
+pub mod Areas
