@@ -25,30 +25,26 @@ returns-in_err-admit-in-Start g c =
 
 pub overflow_add-steps : goal.overflow_add-steps
 overflow_add-steps g c =
-    let free = admits c.loop-next.steps c.args.fuel (room c.args.frames.now) (length (live c.loop-next.frames)) (room c.loop-next.frames) c.is_full.result _
-    c.is_full.ensures c.loop-next.invariant.frames_places c.in_ok-admit-in-Start.ensures c.loop-next.invariant.counted in
+    let free = admits _ _ _ _ _ _ _ c.is_full.ensures c.loop-next.invariant.frames_places c.in_ok-admit-in-Start.ensures c.loop-next.invariant.counted in
     let l : c.loop-next.steps < c.args.fuel = free.0 in
     omega arith
 
 pub returns-in_err-next-in-Start : goal.returns-in_err-next-in-Start
 returns-in_err-next-in-Start g c =
-    let free = admits c.loop-next.steps c.args.fuel (room c.args.frames.now) (length (live c.loop-next.frames)) (room c.loop-next.frames) c.is_full.result _
-    c.is_full.ensures c.loop-next.invariant.frames_places c.in_ok-admit-in-Start.ensures c.loop-next.invariant.counted in
+    let free = admits _ _ _ _ _ _ _ c.is_full.ensures c.loop-next.invariant.frames_places c.in_ok-admit-in-Start.ensures c.loop-next.invariant.counted in
     ends_stop _ _ _ _ _ _ (Err c.in_err-next-in-Start.field-0.0) (live c.start.new.frames) _ _ _ _
     (goes_start _ _ _ _ _ _ _ _ _ _ _ _ c.loop-next.invariant.rest
     c.in-Start.node c.in-Start.scope (ap Ok c.in-Start.is) (Err c.in_err-next-in-Start.field-0.0) _ (c.in_err-next-in-Start.ensures.step (cells g.K.Number.value (live c.loop-next.cells))) free.0 free.1) _ _ c.from_residual-in_err-next-in-Start.ensures.1 refl
 
 pub loop-next-smaller-in_ok-next-in-Start : goal.loop-next-smaller-in_ok-next-in-Start
 loop-next-smaller-in_ok-next-in-Start g c =
-    let free = admits c.loop-next.steps c.args.fuel (room c.args.frames.now) (length (live c.loop-next.frames)) (room c.loop-next.frames) c.is_full.result _
-    c.is_full.ensures c.loop-next.invariant.frames_places c.in_ok-admit-in-Start.ensures c.loop-next.invariant.counted in
+    let free = admits _ _ _ _ _ _ _ c.is_full.ensures c.loop-next.invariant.frames_places c.in_ok-admit-in-Start.ensures c.loop-next.invariant.counted in
     falls_start _ _ _ _ _ _ _ _ _ _ _ _ c.loop-next.invariant.rest
     c.in-Start.node c.in-Start.scope (ap Ok c.in-Start.is) (Ok c.in_ok-next-in-Start.next) _ (c.in_ok-next-in-Start.ensures.step (cells g.K.Number.value (live c.loop-next.cells))) free.0
 
 pub loop-next-preserved-in_ok-next-in-Start : goal.loop-next-preserved-in_ok-next-in-Start
 loop-next-preserved-in_ok-next-in-Start g c =
-    let free = admits c.loop-next.steps c.args.fuel (room c.args.frames.now) (length (live c.loop-next.frames)) (room c.loop-next.frames) c.is_full.result _
-    c.is_full.ensures c.loop-next.invariant.frames_places c.in_ok-admit-in-Start.ensures c.loop-next.invariant.counted in
+    let free = admits _ _ _ _ _ _ _ c.is_full.ensures c.loop-next.invariant.frames_places c.in_ok-admit-in-Start.ensures c.loop-next.invariant.counted in
     let l : c.loop-next.steps < c.args.fuel = free.0 in
     record {
       counted = omega arith;
