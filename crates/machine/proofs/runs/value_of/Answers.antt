@@ -1,9 +1,8 @@
-use Rattle.std.proofs.Common.{◌<◌, ◌≤◌, length, Ok, Err, sym, refl, ap, ◌∙◌, arith}
+use Rattle.std.proofs.Common.{◌<◌, Ok, Err, sym, refl, ap, ◌∙◌, arith}
 use Rattle.stack.specs.Live.{live, room}
 use Rattle.stack.proofs.Ends.{empty_from_top}
-use Rattle.stack.proofs.Lengths.{live_length}
 use Rattle.machine.specs.Seen.{cells}
-use Rattle.machine.proofs.Lists.{fewer, whole}
+use Rattle.machine.proofs.Lists.{fewer, whole, within}
 use Rattle.machine.proofs.Turns.{limits, admits, begins, ends_refused, ends_stop, ends_done, goes_start, falls_start, goes_return, falls_return}
 use Rattle.machine.proofs.runs.value_of.Goals as goal
 
@@ -62,20 +61,11 @@ returns-in-None g c = ends_done _ _ _ _ _ _ _ _ _ _ _ _ c.loop-next.invariant.re
 
 pub resume-requires : goal.resume-requires
 resume-requires g c =
-    let h : length (live c.loop-next.frames) ≤ room c.pop.new.self =
-    let k = live_length c.loop-next.frames in
-    let o = c.loop-next.frames.fits in
-    let p = c.in-Some.ensures.area.places in
-    omega arith in
-    fewer _ _ c.in-Some.frame _ (whole _ _ _ c.in-Some.ensures.answer c.in-Some.ensures.held) h
+    fewer _ _ c.in-Some.frame _ (whole _ _ _ c.in-Some.ensures.answer c.in-Some.ensures.held) (within c.loop-next.frames _ (sym c.in-Some.ensures.area.places))
 
 pub returns-in_err-next-in-Some : goal.returns-in_err-next-in-Some
 returns-in_err-next-in-Some g c =
-    let fits : length (live c.loop-next.frames) ≤ room c.args.frames.now =
-    let k = live_length c.loop-next.frames in
-    let o = c.loop-next.frames.fits in
-    let r = c.loop-next.invariant.frames_places in
-    omega arith in
+    let fits = within c.loop-next.frames _ c.loop-next.invariant.frames_places in
     let popped = whole _ _ _ c.in-Some.ensures.answer c.in-Some.ensures.held in
     ends_stop _ _ _ _ _ _ (Err c.in_err-next-in-Some.field-0.0) (live c.resume.new.frames) _ _ _ _
     (goes_return _ _ _ _ _ _ _ _ _ _ _ _ c.loop-next.invariant.rest
@@ -89,11 +79,7 @@ loop-next-smaller g c =
 
 pub loop-next-preserved : goal.loop-next-preserved
 loop-next-preserved g c =
-    let fits : length (live c.loop-next.frames) ≤ room c.args.frames.now =
-    let k = live_length c.loop-next.frames in
-    let o = c.loop-next.frames.fits in
-    let r = c.loop-next.invariant.frames_places in
-    omega arith in
+    let fits = within c.loop-next.frames _ c.loop-next.invariant.frames_places in
     let popped = whole _ _ _ c.in-Some.ensures.answer c.in-Some.ensures.held in
     record {
       counted = c.loop-next.invariant.counted;
