@@ -1,10 +1,10 @@
 -- What the code's verdict says of the first question that is refused, and what a verdict that is yes gives.
-use Rattle.std.proofs.Common.{◌≡◌, ℕ, ◌+◌, ◌<◌, ◌≤◌, Bool, true, false, cond, eqb, ltb, leb, List, [], ◌∷◌, length, Some, None, Option, Ok, Err, refl, ap, arith}
+use Rattle.std.proofs.Common.{◌≡◌, ℕ, ◌<◌, ◌≤◌, Bool, true, false, cond, eqb, ltb, leb, List, [], ◌∷◌, length, Some, None, Option, Ok, Err, refl, ap, arith}
 use Rattle.std.proofs.lemmas.Bool.Decides.{nat_tests}
 use Rattle.sheet.specs.declared.row.Row.{Row}
 use Rattle.sheet.specs.Sheet.{Sheet, view}
 use Rattle.shaping.specs.Meaning.{IsShaped}
-use Rattle.evaluation.specs.Evaluation.{most_pending, most_bindings, most_fresh}
+use Rattle.evaluation.specs.Evaluation.{most_pending, most_bindings}
 use Rattle.machine.specs.declared.areas.WorkAreas as areas_lent
 use Rattle.evaluator.specs.Runs.{HasRoom}
 use Rattle.evaluator.proofs.Shaped.{few_sites}

@@ -8,5 +8,4 @@ use number::Number;
 // left is alike, b is told the same. And no run is stuck.
 pub fn seats_are_unswayed<K: Number>()
     ensures { ContractLine K.Number.kind }
-{
-}
+{}

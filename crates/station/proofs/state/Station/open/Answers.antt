@@ -1,4 +1,4 @@
-use Rattle.std.proofs.Common.{◌≡◌, ◌-◌, ◌≤◌, ◌++◌, List, map, length, replicate, pos, ap, ap₂, ◌∙◌, arith, rules, length-take-le}
+use Rattle.std.proofs.Common.{◌≡◌, ◌-◌, ◌++◌, List, map, length, replicate, pos, ap, ap₂, ◌∙◌, arith, rules, length-take-le}
 use mathlib.Core.List.{map-append}
 use borrow.Rule.Slice.PartMut.{post_of}
 use Rattle.sheet.specs.Sheet.{view}
