@@ -14,7 +14,7 @@ pub fn barred<P: Policy>(policy: &P, set: usize, to: usize) -> Option<u32> {
 }
 
 fn variable(table: Table, x: NodeRow) -> &'static str {
-    if node_type(table, x.argument).form != Form::Function {
+    if !matches!(node_type(table, x.argument).form, Form::Function) {
         "the node that the variable names has no function type"
     } else {
         "the argument type of the function that it names does not fit the variable's own type"
@@ -22,7 +22,7 @@ fn variable(table: Table, x: NodeRow) -> &'static str {
 }
 
 fn lambda(own: TypeRow) -> &'static str {
-    if own.form != Form::Function {
+    if !matches!(own.form, Form::Function) {
         "a function node's own type is a function type"
     } else {
         "the body's type does not fit the result type"
@@ -30,7 +30,7 @@ fn lambda(own: TypeRow) -> &'static str {
 }
 
 fn application(table: Table, function: TypeRow, x: NodeRow, value: usize) -> &'static str {
-    if function.form != Form::Function {
+    if !matches!(function.form, Form::Function) {
         "the first part of an application has a function type"
     } else if !fit(table, value, function.argument) {
         "the second part's type does not fit the function's argument type"
@@ -44,7 +44,7 @@ fn application(table: Table, function: TypeRow, x: NodeRow, value: usize) -> &'s
 }
 
 fn creation(table: Table, own: TypeRow, x: NodeRow) -> &'static str {
-    if own.form != Form::Reference {
+    if !matches!(own.form, Form::Reference) {
         "the node's own type is a reference type"
     } else if !has(x.argument, own.sites) {
         "the site is not among the sites of the node's reference type"
@@ -56,7 +56,7 @@ fn creation(table: Table, own: TypeRow, x: NodeRow) -> &'static str {
 }
 
 fn reading(reference: TypeRow) -> &'static str {
-    if reference.form != Form::Reference {
+    if !matches!(reference.form, Form::Reference) {
         "the part that is read has a reference type"
     } else {
         "what some site of the reference holds, raised by the reference's label set, does not fit the node's type"
@@ -64,7 +64,7 @@ fn reading(reference: TypeRow) -> &'static str {
 }
 
 fn writing(table: Table, reference: TypeRow, x: NodeRow, value: usize) -> &'static str {
-    if reference.form != Form::Reference {
+    if !matches!(reference.form, Form::Reference) {
         "the first part of a write has a reference type"
     } else if !fit(table, value, x.ty) {
         "the second part's type does not fit the node's own type"
@@ -74,7 +74,7 @@ fn writing(table: Table, reference: TypeRow, x: NodeRow, value: usize) -> &'stat
 }
 
 fn choice(table: Table, condition: TypeRow, x: NodeRow, second: usize) -> &'static str {
-    if condition.form != Form::Number {
+    if !matches!(condition.form, Form::Number) {
         "the condition of a choice is a number"
     } else if !fit(table, second, x.ty) {
         "the second part's type does not fit the node's type"
@@ -86,7 +86,10 @@ fn choice(table: Table, condition: TypeRow, x: NodeRow, second: usize) -> &'stat
 }
 
 fn operation(first: TypeRow, second: TypeRow, own: TypeRow) -> &'static str {
-    if first.form != Form::Number || second.form != Form::Number || own.form != Form::Number {
+    if !matches!(first.form, Form::Number)
+        || !matches!(second.form, Form::Number)
+        || !matches!(own.form, Form::Number)
+    {
         "both parts of an operation, and the node itself, are numbers"
     } else if !within(first.set, own.set) {
         "the first part's label set does not lie within the node's"
