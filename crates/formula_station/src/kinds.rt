@@ -31,10 +31,9 @@ impl FromStr for Kind {
 
 // The kind that a command's word names; none where it names none, and why is told.
 pub fn asked_kind(rt: &HostRuntime, word: &str) -> io::Result<Option<Kind>> {
-    match word.parse() {
+    match word.parse::<Kind>() {
         Ok(kind) => Ok(Some(kind)),
         Err(error) => {
-            let error: UnknownKind = error;
             eprintln!(rt; "formula_station: {error}")?;
             Ok(None)
         }

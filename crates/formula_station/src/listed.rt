@@ -1,6 +1,10 @@
 // A policy as the first lines of its file list it.
 ghost use Rattle.formula_station.specs.Listed.{listed_flows, listed_size};
-ghost use Rattle.std.proofs.Common.{rules};
+ghost use Rattle.formula_station.specs.declared.listed.Listed.TheVariants.{Clearances, Pairs};
+ghost use Rattle.policy.specs.Clearances.{compartments_of};
+ghost use Rattle.std.proofs.Common.{arith, rules};
+ghost use Rattle.std.proofs.lemmas.Bool.Decides.{nat_tests};
+ghost use Rattle.std.specs.Int.Bits.{and_self};
 
 use policy::{Clearances, PairList, Policy};
 
@@ -18,7 +22,7 @@ impl Policy for Listed {
 
     ghost counted = { elim [ Pairs p ↦ Prim.search rules | Clearances c ↦ Prim.search rules ] };
 
-    ghost reflexive = { elim [ Pairs p ↦ Prim.search rules | Clearances c ↦ Prim.search rules ] };
+    ghost reflexive = { elim [ Pairs p ↦ Prim.search rules | Clearances c ↦ λ a h. let own = and_self (compartments_of c a) in Prim.grind (arith, nat_tests) ] };
 
     ghost sources = { elim [ Pairs p ↦ Prim.search rules | Clearances c ↦ Prim.search rules ] };
 

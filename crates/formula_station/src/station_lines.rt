@@ -135,11 +135,12 @@ fn answers<K: Worded + Drop>(
 pub fn serve<K: Worded + Drop>(rt: &HostRuntime, sheet: Admitted) -> anyhow::Result<bool> {
     let table = Table::new(sheet.rows);
     let mut channels = vec![in rt.alloc(); K::from_whole(0); table.sites]?;
-    if let Err(question) = Station::check(&sheet, &mut channels) {
+    let places: &mut [K] = &mut channels;
+    if let Err(question) = Station::check(&sheet, places) {
         tell_question(rt, question, "opening")?;
         return Ok(false);
     }
-    let mut station = Station::open(sheet, &mut channels);
+    let mut station = Station::open(sheet, places);
     answers(rt, table, &mut station)?;
     Ok(true)
 }
