@@ -5,32 +5,16 @@ use sheet::{Form, Kind, NodeRow, Table, TypeRow};
 use typing::fitting::fit;
 use typing::rules::node_type;
 
-fn is_number(form: Form) -> bool {
-    matches!(form, Form::Number)
-}
-
-fn is_function(form: Form) -> bool {
-    matches!(form, Form::Function)
-}
-
-fn is_reference(form: Form) -> bool {
-    matches!(form, Form::Reference)
-}
-
 // The first label of the set that may not flow to a label.
-pub(crate) fn barred<P: Policy>(policy: &P, set: usize, to: usize) -> Option<usize> {
-    let labels = policy.labels();
-    for a in 0..labels {
-        let flows = to < labels as usize && policy.may_flow(a, (to & 0xffff) as u32);
-        if has(a as usize, set) && !flows {
-            return Some(a as usize);
-        }
-    }
-    None
+pub fn barred<P: Policy>(policy: &P, set: usize, to: usize) -> Option<u32> {
+    (0..policy.labels()).find(|from| {
+        let flows = u32::try_from(to).is_ok_and(|to| policy.may_flow(*from, to));
+        has(*from as usize, set) && !flows
+    })
 }
 
 fn variable(table: Table, x: NodeRow) -> &'static str {
-    if !is_function(node_type(table, x.argument).form) {
+    if !matches!(node_type(table, x.argument).form, Form::Function) {
         "the node that the variable names has no function type"
     } else {
         "the argument type of the function that it names does not fit the variable's own type"
@@ -38,7 +22,7 @@ fn variable(table: Table, x: NodeRow) -> &'static str {
 }
 
 fn lambda(own: TypeRow) -> &'static str {
-    if !is_function(own.form) {
+    if !matches!(own.form, Form::Function) {
         "a function node's own type is a function type"
     } else {
         "the body's type does not fit the result type"
@@ -46,7 +30,7 @@ fn lambda(own: TypeRow) -> &'static str {
 }
 
 fn application(table: Table, function: TypeRow, x: NodeRow, value: usize) -> &'static str {
-    if !is_function(function.form) {
+    if !matches!(function.form, Form::Function) {
         "the first part of an application has a function type"
     } else if !fit(table, value, function.argument) {
         "the second part's type does not fit the function's argument type"
@@ -60,7 +44,7 @@ fn application(table: Table, function: TypeRow, x: NodeRow, value: usize) -> &'s
 }
 
 fn creation(table: Table, own: TypeRow, x: NodeRow) -> &'static str {
-    if !is_reference(own.form) {
+    if !matches!(own.form, Form::Reference) {
         "the node's own type is a reference type"
     } else if !has(x.argument, own.sites) {
         "the site is not among the sites of the node's reference type"
@@ -72,7 +56,7 @@ fn creation(table: Table, own: TypeRow, x: NodeRow) -> &'static str {
 }
 
 fn reading(reference: TypeRow) -> &'static str {
-    if !is_reference(reference.form) {
+    if !matches!(reference.form, Form::Reference) {
         "the part that is read has a reference type"
     } else {
         "what some site of the reference holds, raised by the reference's label set, does not fit the node's type"
@@ -80,7 +64,7 @@ fn reading(reference: TypeRow) -> &'static str {
 }
 
 fn writing(table: Table, reference: TypeRow, x: NodeRow, value: usize) -> &'static str {
-    if !is_reference(reference.form) {
+    if !matches!(reference.form, Form::Reference) {
         "the first part of a write has a reference type"
     } else if !fit(table, value, x.ty) {
         "the second part's type does not fit the node's own type"
@@ -90,7 +74,7 @@ fn writing(table: Table, reference: TypeRow, x: NodeRow, value: usize) -> &'stat
 }
 
 fn choice(table: Table, condition: TypeRow, x: NodeRow, second: usize) -> &'static str {
-    if !is_number(condition.form) {
+    if !matches!(condition.form, Form::Number) {
         "the condition of a choice is a number"
     } else if !fit(table, second, x.ty) {
         "the second part's type does not fit the node's type"
@@ -102,7 +86,10 @@ fn choice(table: Table, condition: TypeRow, x: NodeRow, second: usize) -> &'stat
 }
 
 fn operation(first: TypeRow, second: TypeRow, own: TypeRow) -> &'static str {
-    if !is_number(first.form) || !is_number(second.form) || !is_number(own.form) {
+    if !matches!(first.form, Form::Number)
+        || !matches!(second.form, Form::Number)
+        || !matches!(own.form, Form::Number)
+    {
         "both parts of an operation, and the node itself, are numbers"
     } else if !within(first.set, own.set) {
         "the first part's label set does not lie within the node's"
@@ -112,7 +99,7 @@ fn operation(first: TypeRow, second: TypeRow, own: TypeRow) -> &'static str {
 }
 
 // The clause of its type rule that node i breaks.
-pub(crate) fn type_rule(table: Table, i: usize) -> &'static str {
+pub fn type_rule(table: Table, i: usize) -> &'static str {
     let x = table.node_at(i);
     let own = table.type_at(x.ty);
     let end = i.saturating_sub(1);
@@ -137,7 +124,7 @@ pub(crate) fn type_rule(table: Table, i: usize) -> &'static str {
 }
 
 // The clause of its control rule that node i breaks.
-pub(crate) fn control_rule(table: Table, i: usize) -> &'static str {
+pub fn control_rule(table: Table, i: usize) -> &'static str {
     match table.node_at(i).kind {
         Kind::Lambda => "the body's control set does not contain the function type's effect set",
         Kind::Choice => {

@@ -2,34 +2,46 @@
 use number::{Metres, Millimetres, Number};
 use std::alloc::{AllocError, Global};
 use std::io;
+use std::str::FromStr;
+use thiserror::Error;
 
 // Which kind of numbers a command asks for.
 #[derive(Clone, Copy)]
-pub(crate) enum Kind {
+pub enum Kind {
     Millimetres,
     Metres,
 }
 
-// The kind that a word names.
-fn kind_of(word: &str) -> Option<Kind> {
-    match word {
-        "mm" => Some(Kind::Millimetres),
-        "m" => Some(Kind::Metres),
-        _ => None,
+// A word names no kind of numbers.
+#[derive(Debug, Drop, Error)]
+#[error("the kind of numbers is mm or m")]
+pub struct UnknownKind;
+
+impl FromStr for Kind {
+    type Err = UnknownKind;
+
+    fn from_str(word: &str) -> Result<Kind, UnknownKind> {
+        match word {
+            "mm" => Ok(Kind::Millimetres),
+            "m" => Ok(Kind::Metres),
+            _ => Err(UnknownKind),
+        }
     }
 }
 
 // The kind that a command's word names; none where it names none, and why is told.
-pub(crate) fn asked_kind(rt: &HostRuntime, word: &str) -> io::Result<Option<Kind>> {
-    let kind = kind_of(word);
-    if kind.is_none() {
-        eprintln!(rt; "formula_station: the kind of numbers is mm or m")?;
+pub fn asked_kind(rt: &HostRuntime, word: &str) -> io::Result<Option<Kind>> {
+    match word.parse::<Kind>() {
+        Ok(kind) => Ok(Some(kind)),
+        Err(error) => {
+            eprintln!(rt; "formula_station: {error}")?;
+            Ok(None)
+        }
     }
-    Ok(kind)
 }
 
 // A kind of numbers that can be written and read.
-pub(crate) trait Worded: Number {
+pub trait Worded: Number {
     // The number in full, in the fewest digits that say it.
     fn shown(self, heap: Global) -> Result<String, AllocError>;
 

@@ -4,9 +4,11 @@
 mod call_lines;
 mod explain;
 mod kinds;
+mod listed;
 mod matrix;
 mod numerals;
 mod policy_file;
+mod policy_lines;
 mod sheet_file;
 mod station_lines;
 mod trial_lines;
@@ -46,127 +48,74 @@ const USAGE: &str =
     "usage: formula_station check SHEET.csv POLICY.txt | run SHEET.csv POLICY.txt KIND | trial SHEET.csv KIND | policy POLICY.txt | --help";
 
 // What a command line asks for.
-enum Command {
+#[derive(Clone, Copy)]
+enum Command<'a> {
     Help,
     Check {
-        sheet: String,
-        policy: String,
+        sheet: &'a str,
+        policy: &'a str,
     },
     Run {
-        sheet: String,
-        policy: String,
-        kind: String,
+        sheet: &'a str,
+        policy: &'a str,
+        kind: &'a str,
     },
     Trial {
-        sheet: String,
-        kind: String,
+        sheet: &'a str,
+        kind: &'a str,
     },
     Policy {
-        policy: String,
+        policy: &'a str,
     },
-    Unknown,
-}
-
-// Whether a word asks for help.
-fn is_help(word: &str) -> bool {
-    word == "--help" || word == "-h" || word == "help"
-}
-
-// A command with no word after its name.
-fn alone(name: &str) -> Command {
-    if is_help(name) {
-        Command::Help
-    } else {
-        Command::Unknown
-    }
-}
-
-// A command with one word after its name.
-fn with_one(name: &str, policy: String) -> Command {
-    if name == "policy" {
-        Command::Policy { policy }
-    } else {
-        Command::Unknown
-    }
-}
-
-// A command with two words after its name.
-fn with_two(name: &str, sheet: String, second: String) -> Command {
-    match name {
-        "check" => Command::Check {
-            sheet,
-            policy: second,
-        },
-        "trial" => Command::Trial {
-            sheet,
-            kind: second,
-        },
-        _ => Command::Unknown,
-    }
-}
-
-// A command with three words after its name.
-fn with_three(name: &str, sheet: String, policy: String, kind: String) -> Command {
-    if name == "run" {
-        Command::Run {
-            sheet,
-            policy,
-            kind,
-        }
-    } else {
-        Command::Unknown
-    }
 }
 
 // The command that the words after the program's name say.
-fn command_of(rt: &HostRuntime) -> anyhow::Result<Command> {
-    let mut args = env::args(rt)?;
-    let _ = args.next();
-    let name = args.next();
-    let first = args.next();
-    let second = args.next();
-    let third = args.next();
-    let more = args.next();
-    if more.is_some() {
-        return Ok(Command::Unknown);
+fn command_of<'a>(words: &[&'a str]) -> Option<Command<'a>> {
+    match *words {
+        ["--help" | "-h" | "help"] => Some(Command::Help),
+        ["check", sheet, policy] => Some(Command::Check { sheet, policy }),
+        ["run", sheet, policy, kind] => Some(Command::Run {
+            sheet,
+            policy,
+            kind,
+        }),
+        ["trial", sheet, kind] => Some(Command::Trial { sheet, kind }),
+        ["policy", policy] => Some(Command::Policy { policy }),
+        _ => None,
     }
-    Ok(match (name, first, second, third) {
-        (Some(name), None, None, None) => alone(name.as_str()),
-        (Some(name), Some(first), None, None) => with_one(name.as_str(), first),
-        (Some(name), Some(first), Some(second), None) => with_two(name.as_str(), first, second),
-        (Some(name), Some(first), Some(second), Some(third)) => {
-            with_three(name.as_str(), first, second, third)
-        }
-        _ => Command::Unknown,
-    })
 }
 
 // Carries a command out: whether everything was granted.
-fn run(rt: &HostRuntime) -> anyhow::Result<bool> {
-    match command_of(rt)? {
+fn run(rt: &HostRuntime, command: Command) -> anyhow::Result<bool> {
+    match command {
         Command::Help => {
             println!(rt; "{HELP}")?;
             Ok(true)
         }
-        Command::Check { sheet, policy } => sheet_file::check(rt, sheet.as_str(), policy.as_str()),
+        Command::Check { sheet, policy } => sheet_file::check(rt, sheet, policy),
         Command::Run {
             sheet,
             policy,
             kind,
-        } => sheet_file::run(rt, sheet.as_str(), policy.as_str(), kind.as_str()),
-        Command::Trial { sheet, kind } => trial_lines::run(rt, sheet.as_str(), kind.as_str()),
-        Command::Policy { policy } => matrix::show(rt, policy.as_str()),
-        Command::Unknown => {
-            eprintln!(rt; "{USAGE}")?;
-            Ok(false)
-        }
+        } => sheet_file::run(rt, sheet, policy, kind),
+        Command::Trial { sheet, kind } => trial_lines::run(rt, sheet, kind),
+        Command::Policy { policy } => matrix::show(rt, policy),
     }
 }
 
 fn main(rt: HostRuntime) -> anyhow::Result<ExitCode> {
-    if run(&rt)? {
-        Ok(ExitCode::SUCCESS)
+    let args: Vec<String> = env::args(&rt)?.skip(1).collect(rt.alloc())?;
+    let words: Vec<&str> = args.iter().map(|word| word.as_str()).collect(rt.alloc())?;
+    let granted = match command_of(&words) {
+        Some(command) => run(&rt, command)?,
+        None => {
+            eprintln!(&rt; "{USAGE}")?;
+            false
+        }
+    };
+    Ok(if granted {
+        ExitCode::SUCCESS
     } else {
-        Ok(ExitCode::FAILURE)
-    }
+        ExitCode::FAILURE
+    })
 }

@@ -1,6 +1,5 @@
 // A policy's relation as a table that a person can read.
 use super::policy_file;
-use super::policy_file::Reading;
 use policy::Policy;
 use std::io;
 
@@ -17,6 +16,7 @@ fn print_row<P: Policy>(rt: &HostRuntime, policy: &P, from: u32) -> io::Result<(
     println!(rt; "")
 }
 
+// The table, below a line with the columns' labels.
 fn print_relation<P: Policy>(rt: &HostRuntime, policy: &P) -> io::Result<()> {
     let labels = policy.labels();
     println!(rt; "{labels} labels; a row's label may flow to the columns marked +")?;
@@ -32,13 +32,10 @@ fn print_relation<P: Policy>(rt: &HostRuntime, policy: &P) -> io::Result<()> {
 }
 
 // Shows the relation of the policy in a file: whether there is one.
-pub(crate) fn show(rt: &HostRuntime, path: &str) -> anyhow::Result<bool> {
-    match policy_file::open(rt, path)? {
-        Reading::Nothing => return Ok(false),
-        Reading::Pairs(policy) => print_relation(rt, &policy)?,
-        Reading::Clearances(policy) => print_relation(rt, &policy)?,
-        Reading::NarrowedPairs(policy) => print_relation(rt, &policy)?,
-        Reading::NarrowedClearances(policy) => print_relation(rt, &policy)?,
-    }
+pub fn show(rt: &HostRuntime, path: &str) -> anyhow::Result<bool> {
+    let Some(policy) = policy_file::open(rt, path)? else {
+        return Ok(false);
+    };
+    print_relation(rt, &policy)?;
     Ok(true)
 }

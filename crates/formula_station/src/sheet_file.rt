@@ -1,11 +1,10 @@
 // A sheet's file: read to its end, shaped, held against a policy, and opened as a station.
 use super::kinds::{Kind, asked_kind};
-use super::policy_file::Reading;
 use super::{explain, policy_file, station_lines, words};
 use admission::{Admitted, Question as Asked};
 use number::{Metres, Millimetres};
 use policy::Policy;
-use shaping::{Draft, Question, Shaped};
+use shaping::{Draft, Shaped};
 use sheet::{Refusal, Row, Table};
 use sheet_text::{Refusal as TextRefusal, read_sheet};
 use std::{fs, io};
@@ -56,17 +55,17 @@ fn print_text(rt: &HostRuntime, rows: &[Row], k: usize) -> io::Result<()> {
     }
 }
 
-// Tells that a sheet was refused.
-pub(crate) fn tell_shaping(
+// Tells which question about a row was answered no, and shows the row.
+fn tell_row(
     rt: &HostRuntime,
     rows: &[Row],
-    refusal: Refusal<Question>,
+    step: &str,
+    number: u8,
+    why: &str,
+    row: usize,
 ) -> io::Result<()> {
-    let question = refusal.question.number();
-    let row = refusal.row;
-    let why = words::of_shape(refusal.question);
-    println!(rt; "shaping refused {question} row {row}")?;
-    eprintln!(rt; "question {question}: {why}")?;
+    println!(rt; "{step} refused {number} row {row}")?;
+    eprintln!(rt; "question {number}: {why}")?;
     print_text(rt, rows, row)
 }
 
@@ -116,12 +115,9 @@ fn tell_admission<P: Policy>(
     policy: &P,
     refusal: Refusal<Asked>,
 ) -> io::Result<()> {
-    let question = refusal.question.number();
-    let row = refusal.row;
+    let number = refusal.question.number();
     let why = words::of_admission(refusal.question);
-    println!(rt; "admission refused {question} row {row}")?;
-    eprintln!(rt; "question {question}: {why}")?;
-    print_text(rt, rows, row)?;
+    tell_row(rt, rows, "admission", number, why, refusal.row)?;
     tell_rule(rt, Table::new(rows), policy, refusal)
 }
 
@@ -133,53 +129,8 @@ fn serve(rt: &HostRuntime, sheet: Admitted, kind: Kind) -> anyhow::Result<bool> 
     }
 }
 
-// Admits a shaped sheet under a policy, and answers calls over it where a kind of numbers is given for
-// them: whether everything was granted.
-fn admit<P: Policy>(
-    rt: &HostRuntime,
-    rows: &[Row],
-    shaped: Shaped,
-    policy: &P,
-    calls: Option<Kind>,
-) -> anyhow::Result<bool> {
-    if let Err(refusal) = admission::check(&shaped, policy) {
-        tell_admission(rt, rows, policy, refusal)?;
-        return Ok(false);
-    }
-    let admitted = admission::admit(shaped, policy);
-    println!(rt; "admitted")?;
-    match calls {
-        Some(kind) => serve(rt, admitted, kind),
-        None => Ok(true),
-    }
-}
-
-// Shapes the rows, holds them against the policy of a file, and answers calls where a kind of numbers is
-// given for them: whether everything was granted.
-fn shape(
-    rt: &HostRuntime,
-    rows: &[Row],
-    policy: &str,
-    calls: Option<Kind>,
-) -> anyhow::Result<bool> {
-    let draft = Draft::new(rows);
-    if let Err(refusal) = draft.check() {
-        tell_shaping(rt, rows, refusal)?;
-        return Ok(false);
-    }
-    let shaped = draft.shape();
-    tell_counts(rt, &shaped)?;
-    match policy_file::open(rt, policy)? {
-        Reading::Nothing => Ok(false),
-        Reading::Pairs(policy) => admit(rt, rows, shaped, &policy, calls),
-        Reading::Clearances(policy) => admit(rt, rows, shaped, &policy, calls),
-        Reading::NarrowedPairs(policy) => admit(rt, rows, shaped, &policy, calls),
-        Reading::NarrowedClearances(policy) => admit(rt, rows, shaped, &policy, calls),
-    }
-}
-
 // Tells how many types, sites, nodes and entries there are.
-pub(crate) fn tell_counts(rt: &HostRuntime, shaped: &Shaped) -> io::Result<()> {
+fn tell_counts(rt: &HostRuntime, shaped: &Shaped) -> io::Result<()> {
     let counts = shaped.counts();
     let (types, sites) = (counts.types, counts.sites);
     let (nodes, entries) = (counts.nodes, counts.entries);
@@ -187,12 +138,12 @@ pub(crate) fn tell_counts(rt: &HostRuntime, shaped: &Shaped) -> io::Result<()> {
 }
 
 // The rows of a file; none where they cannot be read, and why is told.
-pub(crate) fn read(rt: &HostRuntime, path: &str) -> anyhow::Result<Option<Vec<Row>>> {
+pub fn read(rt: &HostRuntime, path: &str) -> anyhow::Result<Option<Vec<Row>>> {
     let Some(bytes) = load(rt, path)? else {
         return Ok(None);
     };
     let mut table = vec![in rt.alloc(); BLANK; ROOM]?;
-    match read_sheet(bytes.as_slice(), table.as_mut_slice()) {
+    match read_sheet(&bytes, &mut table) {
         Ok(count) => {
             println!(rt; "read {count} rows")?;
             table.truncate(count);
@@ -205,22 +156,54 @@ pub(crate) fn read(rt: &HostRuntime, path: &str) -> anyhow::Result<Option<Vec<Ro
     }
 }
 
-// Reads a sheet, shapes it and holds it against a policy: whether everything was granted.
-pub(crate) fn check(rt: &HostRuntime, path: &str, policy: &str) -> anyhow::Result<bool> {
-    match read(rt, path)? {
-        Some(rows) => shape(rt, rows.as_slice(), policy, None),
-        None => Ok(false),
+// The sheet of the rows; none where it has no lawful shape, and why is told.
+pub fn shape<'a>(rt: &HostRuntime, rows: &'a [Row]) -> io::Result<Option<Shaped<'a>>> {
+    let draft = Draft::new(rows);
+    if let Err(refusal) = draft.check() {
+        let number = refusal.question.number();
+        let why = words::of_shape(refusal.question);
+        tell_row(rt, rows, "shaping", number, why, refusal.row)?;
+        return Ok(None);
     }
+    let shaped = draft.shape();
+    tell_counts(rt, &shaped)?;
+    Ok(Some(shaped))
+}
+
+// Reads and shapes a sheet, admits it under the policy of a file, and answers calls over it where a kind
+// of numbers is given for them: whether everything was granted.
+fn admit(rt: &HostRuntime, path: &str, policy: &str, calls: Option<Kind>) -> anyhow::Result<bool> {
+    let Some(rows) = read(rt, path)? else {
+        return Ok(false);
+    };
+    let Some(shaped) = shape(rt, &rows)? else {
+        return Ok(false);
+    };
+    let Some(policy) = policy_file::open(rt, policy)? else {
+        return Ok(false);
+    };
+    if let Err(refusal) = admission::check(&shaped, &policy) {
+        tell_admission(rt, &rows, &policy, refusal)?;
+        return Ok(false);
+    }
+    let admitted = admission::admit(shaped, &policy);
+    println!(rt; "admitted")?;
+    match calls {
+        Some(kind) => serve(rt, admitted, kind),
+        None => Ok(true),
+    }
+}
+
+// Reads a sheet, shapes it and holds it against a policy: whether everything was granted.
+pub fn check(rt: &HostRuntime, path: &str, policy: &str) -> anyhow::Result<bool> {
+    admit(rt, path, policy, None)
 }
 
 // Does what a check does, opens a station over the sheet where it is admitted, and answers the calls of
 // the input: whether the sheet was granted.
-pub(crate) fn run(rt: &HostRuntime, path: &str, policy: &str, kind: &str) -> anyhow::Result<bool> {
+pub fn run(rt: &HostRuntime, path: &str, policy: &str, kind: &str) -> anyhow::Result<bool> {
     let Some(kind) = asked_kind(rt, kind)? else {
         return Ok(false);
     };
-    match read(rt, path)? {
-        Some(rows) => shape(rt, rows.as_slice(), policy, Some(kind)),
-        None => Ok(false),
-    }
+    admit(rt, path, policy, Some(kind))
 }

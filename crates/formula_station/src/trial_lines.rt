@@ -5,8 +5,8 @@ use super::sheet_file;
 use super::work::{Areas, new_areas, tell_report};
 use evaluator::trial;
 use number::{Metres, Millimetres};
-use shaping::{Draft, Shaped};
-use sheet::Row;
+use shaping::Shaped;
+use std::io;
 use std::io::{BufRead, BufReader};
 
 // The entry and the fuel of a line 'trial ENTRY FUEL'.
@@ -19,7 +19,7 @@ fn parse(line: &str) -> Option<(usize, usize)> {
     let fuel = natural(words.next()?)?;
     match words.next() {
         Some(_) => None,
-        None => Some((entry as usize, fuel as usize)),
+        None => Some((entry, fuel)),
     }
 }
 
@@ -29,25 +29,21 @@ fn answer<K: Worded>(
     shaped: &Shaped,
     areas: &mut Areas<K>,
     line: &str,
-) -> anyhow::Result<()> {
+) -> io::Result<()> {
     let Some((entry, fuel)) = parse(line) else {
         println!(rt; "malformed")?;
-        eprintln!(rt; "a trial is 'trial ENTRY FUEL': {line}")?;
-        return Ok(());
+        return eprintln!(rt; "a trial is 'trial ENTRY FUEL': {line}");
     };
-    let pending = areas.pending.as_mut_slice();
-    let bound = areas.bound.as_mut_slice();
-    let held = areas.held.as_mut_slice();
+    let (pending, bound, held) = areas.lent();
     match trial(shaped, entry, fuel, pending, bound, held) {
-        Ok(report) => tell_report(rt, report)?,
+        Ok(report) => tell_report(rt, report),
         Err(refusal) => {
             let question = refusal.number();
             let why = super::words::of_trial(refusal);
             println!(rt; "refused {question}")?;
-            eprintln!(rt; "question {question}: {why}")?;
+            eprintln!(rt; "question {question}: {why}")
         }
     }
-    Ok(())
 }
 
 // Answers the lines of the input.
@@ -56,35 +52,26 @@ fn answers<K: Worded + Drop>(rt: &HostRuntime, shaped: &Shaped) -> anyhow::Resul
     for line in BufReader::new(rt.alloc(), rt.stdin())?.lines(rt.alloc()) {
         let line = line?;
         if !line.trim().is_empty() {
-            answer(rt, shaped, &mut areas, line.as_str())?;
+            answer(rt, shaped, &mut areas, &line)?;
         }
     }
     Ok(())
 }
 
-// Shapes the rows, and tries its entries as the input says: whether the sheet was granted.
-fn shape(rt: &HostRuntime, rows: &[Row], kind: Kind) -> anyhow::Result<bool> {
-    let draft = Draft::new(rows);
-    if let Err(refusal) = draft.check() {
-        sheet_file::tell_shaping(rt, rows, refusal)?;
+// Reads and shapes a sheet, and tries its entries as the input says: whether the sheet was granted.
+pub fn run(rt: &HostRuntime, path: &str, kind: &str) -> anyhow::Result<bool> {
+    let Some(kind) = asked_kind(rt, kind)? else {
         return Ok(false);
-    }
-    let shaped = draft.shape();
-    sheet_file::tell_counts(rt, &shaped)?;
+    };
+    let Some(rows) = sheet_file::read(rt, path)? else {
+        return Ok(false);
+    };
+    let Some(shaped) = sheet_file::shape(rt, &rows)? else {
+        return Ok(false);
+    };
     match kind {
         Kind::Millimetres => answers::<Millimetres>(rt, &shaped)?,
         Kind::Metres => answers::<Metres>(rt, &shaped)?,
     }
     Ok(true)
-}
-
-// Reads and shapes a sheet, and tries its entries: whether the sheet was granted.
-pub(crate) fn run(rt: &HostRuntime, path: &str, kind: &str) -> anyhow::Result<bool> {
-    let Some(kind) = asked_kind(rt, kind)? else {
-        return Ok(false);
-    };
-    match sheet_file::read(rt, path)? {
-        Some(rows) => shape(rt, rows.as_slice(), kind),
-        None => Ok(false),
-    }
 }

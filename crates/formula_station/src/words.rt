@@ -7,7 +7,7 @@ use sheet_text::Question as TextQuestion;
 use station::Question as CallQuestion;
 
 // Reading a sheet's text.
-pub(crate) fn of_text(question: TextQuestion) -> &'static str {
+pub fn of_text(question: TextQuestion) -> &'static str {
     match question {
         TextQuestion::Length => "the text has more than 60,000 bytes",
         TextQuestion::Quoting => {
@@ -26,7 +26,7 @@ pub(crate) fn of_text(question: TextQuestion) -> &'static str {
 }
 
 // Making or changing a policy.
-pub(crate) fn of_policy(refusal: PolicyRefusal) -> &'static str {
+pub fn of_policy(refusal: PolicyRefusal) -> &'static str {
     match refusal {
         PolicyRefusal::UnknownLabel => "a label of this line is not below the number of labels",
         PolicyRefusal::LabelCount => "a policy has 1 to 32 labels",
@@ -38,7 +38,7 @@ pub(crate) fn of_policy(refusal: PolicyRefusal) -> &'static str {
 }
 
 // Shaping a sheet.
-pub(crate) fn of_shape(question: ShapeQuestion) -> &'static str {
+pub fn of_shape(question: ShapeQuestion) -> &'static str {
     match question {
         ShapeQuestion::Letters => {
             "rows come in the order T, S, N, E, and have no other letter; this row breaks that order"
@@ -65,7 +65,7 @@ pub(crate) fn of_shape(question: ShapeQuestion) -> &'static str {
 }
 
 // Admitting a sheet under a policy.
-pub(crate) fn of_admission(question: AdmissionQuestion) -> &'static str {
+pub fn of_admission(question: AdmissionQuestion) -> &'static str {
     match question {
         AdmissionQuestion::Labels => {
             "a label of this row, or a member of one of its label, effect or control sets, is not below the policy's number of labels"
@@ -88,7 +88,7 @@ pub(crate) fn of_admission(question: AdmissionQuestion) -> &'static str {
 }
 
 // Trying an entry.
-pub(crate) fn of_trial(refusal: TrialRefusal) -> &'static str {
+pub fn of_trial(refusal: TrialRefusal) -> &'static str {
     match refusal {
         TrialRefusal::Entry => "the sheet has no such entry",
         TrialRefusal::Fuel => "fuel is 1 to 1,000,000 steps",
@@ -97,7 +97,7 @@ pub(crate) fn of_trial(refusal: TrialRefusal) -> &'static str {
 }
 
 // Opening a station, or calling it.
-pub(crate) fn of_call(question: CallQuestion) -> &'static str {
+pub fn of_call(question: CallQuestion) -> &'static str {
     match question {
         CallQuestion::ChannelArea => "the channel area has not a place for each site",
         CallQuestion::Target =>
