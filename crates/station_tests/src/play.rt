@@ -94,13 +94,15 @@ fn made(
             Err(question) => refused(question),
         },
         Call::Run(seat, entry, fuel, (p, b, c)) => {
-            let p = p.min(areas.pending.len());
-            let b = b.min(areas.bound.len());
-            let c = c.min(areas.held.len());
+            let pending = &mut *areas.pending;
+            let bound = &mut *areas.bound;
+            let held = &mut *areas.held;
+            let (p, b) = (p.min(pending.len()), b.min(bound.len()));
+            let c = c.min(held.len());
             let mut lent = WorkAreas {
-                pending: &mut areas.pending[0..p],
-                bound: &mut areas.bound[0..b],
-                held: &mut areas.held[0..c],
+                pending: &mut pending[0..p],
+                bound: &mut bound[0..b],
+                held: &mut held[0..c],
             };
             ran(station.run(seat, entry, fuel, &mut lent))
         }
