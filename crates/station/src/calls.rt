@@ -51,10 +51,7 @@ impl<'s, 'c, K: Number> Station<'s, 'c, K> {
         ensures { result ≡ verdict (first_refused (channel_questions (sheet_of self.now) (length self.now.channels.now) seat channel)) }
     {
         let table = &self.sheet.shaped.table;
-        let channels: &[K] = self.channels;
-        if channels.len() < table.sites {
-            return Err(Question::ChannelArea);
-        }
+        Self::check(&self.sheet, self.channels)?;
         let site = table.site_at(channel);
         if channel >= table.sites || site.flag != Flag::Channel {
             return Err(Question::Target);
@@ -98,10 +95,7 @@ impl<'s, 'c, K: Number> Station<'s, 'c, K> {
         ensures { result ≡ verdict (first_refused (run_questions (sheet_of self.now) (length self.now.channels.now) seat entry fuel (length areas.now.pending.now) (length areas.now.bound.now) (length areas.now.held.now))) }
     {
         let table = &self.sheet.shaped.table;
-        let channels: &[K] = self.channels;
-        if channels.len() < table.sites {
-            return Err(Question::ChannelArea);
-        }
+        Self::check(&self.sheet, self.channels)?;
         if entry >= table.entries {
             return Err(Question::Target);
         }

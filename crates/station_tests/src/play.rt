@@ -76,11 +76,14 @@ fn ran(answer: Result<Report<Millimetres>, Question>) -> Told {
     }
 }
 
-// Makes a call with work areas of at most the places lent.
+// Makes a call with work areas of at most the places lent. The three slices come apart, since parts of
+// them that are lent out of the fields of one struct get no proof.
 fn made(
     station: &mut Station<Millimetres>,
     call: Call,
-    areas: &mut WorkAreas<Millimetres>,
+    pending: &mut [Frame<Millimetres>],
+    bound: &mut [Binding<Millimetres>],
+    held: &mut [Cell<Millimetres>],
 ) -> Told {
     match call {
         Call::Post(seat, channel, count) => {
@@ -94,9 +97,6 @@ fn made(
             Err(question) => refused(question),
         },
         Call::Run(seat, entry, fuel, (p, b, c)) => {
-            let pending = &mut *areas.pending;
-            let bound = &mut *areas.bound;
-            let held = &mut *areas.held;
             let (p, b) = (p.min(pending.len()), b.min(bound.len()));
             let c = c.min(held.len());
             let mut lent = WorkAreas {
@@ -114,10 +114,12 @@ fn walk(
     rt: &impl Abort,
     station: &mut Station<Millimetres>,
     calls: &[(Call, Told)],
-    areas: &mut WorkAreas<Millimetres>,
+    pending: &mut [Frame<Millimetres>],
+    bound: &mut [Binding<Millimetres>],
+    held: &mut [Cell<Millimetres>],
 ) -> Result<(), Fail> {
     for (call, told) in calls {
-        let answer = made(station, *call, areas);
+        let answer = made(station, *call, pending, bound, held);
         assert_eq!(rt; answer.0, told.0);
         assert_eq!(rt; answer.1, told.1);
         assert_eq!(rt; answer.2, told.2);
@@ -151,12 +153,7 @@ impl Scenario for Script<'_> {
             outer: 0,
         }; 1030];
         let mut held = [Cell { site: 0, value }; 550];
-        let mut areas = WorkAreas {
-            pending: &mut pending,
-            bound: &mut bound,
-            held: &mut held,
-        };
-        walk(rt, station, self.calls, &mut areas)
+        walk(rt, station, self.calls, &mut pending, &mut bound, &mut held)
     }
 }
 
