@@ -1,15 +1,17 @@
 -- What shaping says, as facts, and that each type of a shaped sheet fits itself.
-use Rattle.std.proofs.Common.{◌≡◌, ℕ, zero, suc, ◌-◌, ◌<◌, true, ◌&&◌, ◌||◌, eqb, ltb, List, sym, refl, subst, ⊎_elim, arith}
-use Rattle.std.proofs.lemmas.Bool.{true≢false, and_parts, or_cases, eqb-true, ltb-true}
+use Rattle.std.proofs.Common.{◌≡◌, ℕ, zero, suc, ◌-◌, ◌<◌, true, ◌&&◌, ◌||◌, ltb, List, sym, refl, ap, ◌∙◌, subst, ⊎_elim, arith}
+use Rattle.std.proofs.lemmas.Bool.{true≢false, and_parts, or_cases, ltb-true}
 use Rattle.sheet.specs.declared.row.Row.{Row}
 use Rattle.sheet.specs.declared.decoded.Form.{Form}
 use Rattle.sheet.specs.declared.decoded.Form.TheVariants as form
+use Rattle.sheet.specs.declared.decoded.Flag.TheVariants as flag
 use Rattle.sheet.specs.declared.decoded.Kind.{Kind}
 use Rattle.sheet.specs.declared.decoded.Kind.TheVariants as kind
 use Rattle.sheet.specs.Sets.{set_below}
-use Rattle.sheet.specs.Sheet.{Sheet, view, parts_of}
+use Rattle.sheet.specs.Sheet.{Sheet, is_number, is_fresh, is_channel, view, parts_of}
+use Rattle.sheet.proofs.Flags.{fresh_flag, channel_flag}
 use Rattle.shaping.specs.Types.{lawful_fields, nests, parts_nest}
-use Rattle.shaping.specs.Sites.{is_number, spare}
+use Rattle.shaping.specs.Sites.{spare}
 use Rattle.shaping.specs.Nodes.{lawful_argument, bound_by, is_lambda, parts_begin, sized}
 use Rattle.shaping.specs.Meaning.{IsShaped, Lawful}
 use Rattle.shaping.proofs.Exactly.{lawful}
@@ -66,7 +68,7 @@ module _ (rs : List Row) (ok : IsShaped rs) where
   site_parts : (s : ℕ) → s < S.sites
       → (ltb (S.site s).label 32 ≡ true)
       × (ltb (S.site s).content S.types ≡ true)
-      × ((eqb (S.site s).flag 0 || (eqb (S.site s).flag 1 && is_number (S.type (S.site s).content).form)) ≡ true)
+      × ((is_fresh (S.site s).flag || (is_channel (S.site s).flag && is_number (S.type (S.site s).content).form)) ≡ true)
       × (spare (S.site s) ≡ true)
   site_parts s l =
       let a = and_parts _ _ (law.sites s l) in
@@ -93,11 +95,11 @@ module _ (rs : List Row) (ok : IsShaped rs) where
   site_content s l = ltb-true _ _ (site_parts s l).1
 
   -- a channel's content is a number
-  channel_content : (s : ℕ) → s < S.sites → (S.site s).flag ≡ 1 → (S.type (S.site s).content).form ≡ form.Number
+  channel_content : (s : ℕ) → s < S.sites → (S.site s).flag ≡ flag.Channel → (S.type (S.site s).content).form ≡ form.Number
   channel_content s l e =
       ⊎_elim
-      (λ (z : eqb (S.site s).flag 0 ≡ true). let o = eqb-true (S.site s).flag 0 z in absurd (omega arith))
-      (λ (o : (eqb (S.site s).flag 1 && is_number (S.type (S.site s).content).form) ≡ true). number_form _ (and_parts _ _ o).1)
+      (λ (z : is_fresh (S.site s).flag ≡ true). absurd (true≢false (sym z ∙ ap is_fresh e)))
+      (λ (o : (is_channel (S.site s).flag && is_number (S.type (S.site s).content).form) ≡ true). number_form _ (and_parts _ _ o).1)
       (or_cases _ _ (site_parts s l).2)
 
   pub well_shaped : WellShaped S
@@ -113,8 +115,8 @@ module _ (rs : List Row) (ok : IsShaped rs) where
         let q = ltb-true ((S.node i).argument - i) (S.node (S.node i).argument).size c.1 in
         (a, lambda_kind _ b.0, p, (omega arith, omega arith));
     references = λ t s l e h. member_below S.sites (S.type t).sites s (and_parts _ _ (type_fields t form.Reference l e)).0 h;
-    fresh = λ i l e. let a = and_parts _ _ (node_argument i kind.New l e) in (ltb-true _ _ a.0, eqb-true _ _ a.1);
-    channel = λ i l e. let a = and_parts _ _ (node_argument i kind.Channel l e) in (ltb-true _ _ a.0, eqb-true _ _ a.1);
+    fresh = λ i l e. let a = and_parts _ _ (node_argument i kind.New l e) in (ltb-true _ _ a.0, fresh_flag _ a.1);
+    channel = λ i l e. let a = and_parts _ _ (node_argument i kind.Channel l e) in (ltb-true _ _ a.0, channel_flag _ a.1);
     contents = site_content;
     numeric = channel_content;
   }

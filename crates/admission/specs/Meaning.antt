@@ -3,6 +3,7 @@ use Rattle.std.specs.Prelude.{◌≡◌, ℕ, ◌<◌, ◌≤◌, Bool, true, fa
 use Rattle.sheet.specs.declared.row.Row.{Row}
 use Rattle.sheet.specs.declared.decoded.Form.TheVariants as form
 use Rattle.sheet.specs.declared.decoded.Kind.TheVariants as kind
+use Rattle.sheet.specs.declared.decoded.Flag.TheVariants as flag
 use Rattle.sheet.specs.Asked.{passed, Each}
 use Rattle.sheet.specs.Sets.{has}
 use Rattle.sheet.specs.Sheet.{Sheet, view, InSpan}
@@ -50,10 +51,10 @@ pub record WellShaped (S : Sheet) : Type 0 where
   pub variable : (i : ℕ) → i < S.nodes → (S.node i).kind ≡ kind.Variable →
       ((S.node i).argument < S.nodes) × ((S.node (S.node i).argument).kind ≡ kind.Lambda) × (i < (S.node i).argument) × InSpan S (S.node i).argument i
   pub references : (t s : ℕ) → t < S.types → (S.type t).form ≡ form.Reference → has s (S.type t).sites ≡ true → s < S.sites
-  pub fresh : (i : ℕ) → i < S.nodes → (S.node i).kind ≡ kind.New → ((S.node i).argument < S.sites) × ((S.site (S.node i).argument).flag ≡ 0)
-  pub channel : (i : ℕ) → i < S.nodes → (S.node i).kind ≡ kind.Channel → ((S.node i).argument < S.sites) × ((S.site (S.node i).argument).flag ≡ 1)
+  pub fresh : (i : ℕ) → i < S.nodes → (S.node i).kind ≡ kind.New → ((S.node i).argument < S.sites) × ((S.site (S.node i).argument).flag ≡ flag.Fresh)
+  pub channel : (i : ℕ) → i < S.nodes → (S.node i).kind ≡ kind.Channel → ((S.node i).argument < S.sites) × ((S.site (S.node i).argument).flag ≡ flag.Channel)
   pub contents : (s : ℕ) → s < S.sites → (S.site s).content < S.types
-  pub numeric : (s : ℕ) → s < S.sites → (S.site s).flag ≡ 1 → (S.type (S.site s).content).form ≡ form.Number
+  pub numeric : (s : ℕ) → s < S.sites → (S.site s).flag ≡ flag.Channel → (S.type (S.site s).content).form ≡ form.Number
 
 -- what admission adds, as facts: all labels are below n; every node keeps its rules; a site's label is one of its content's, whose
 -- labels all flow to it; an entry's root gives a number under the entry's label, and the labels of that number all flow to it

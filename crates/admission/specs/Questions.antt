@@ -2,8 +2,7 @@
 use Rattle.std.specs.Prelude.{ℕ, Bool, not, ◌&&◌, ◌||◌, nat_lt}
 use Rattle.sheet.specs.Asked.{every}
 use Rattle.sheet.specs.Sets.{has, set_below}
-use Rattle.sheet.specs.Sheet.{Sheet}
-use Rattle.typing.specs.Fitting.{is_number}
+use Rattle.sheet.specs.Sheet.{Sheet, is_number}
 use Rattle.typing.specs.Tests.{node_type, typed, controlled}
 
 -- 31, of type t: the members of its label set and of its effect set are below n

@@ -1,9 +1,8 @@
-// The one place where the policy is asked.
+//! The one place where the policy is asked.
 ghost use Rattle.std.specs.Prelude.{◌≡◌};
 ghost use Rattle.admission.specs.Questions.{all_flow, flows_if};
 
 use policy::Policy;
-use sheet::Property;
 use sheet::property::all;
 use sheet::sets::has;
 
@@ -11,33 +10,22 @@ use sheet::sets::has;
 fn may_flow<P: Policy>(policy: &P, a: usize, b: usize) -> bool
     ensures { result ≡ P.Policy.flows policy.now a b }
 {
-    let labels = policy.labels() as usize;
-    if a >= labels || b >= labels {
-        return false;
+    match (u32::try_from(a), u32::try_from(b)) {
+        (Ok(a), Ok(b)) => policy.may_flow(a, b),
+        _ => false,
     }
-    policy.may_flow(a as u32, b as u32)
 }
 
-// Each label, where it is in the set, flows to a label.
-#[derive(Drop)]
-struct FlowsIf<'a, P> {
-    policy: &'a P,
-    set: usize,
-    to: usize,
-}
-
-impl<P: Policy> Property for FlowsIf<'_, P> {
-    ghost says = { λ q. flows_if (P.Policy.flows q.policy.now) q.set q.to };
-
-    fn holds(&self, a: usize) -> bool {
-        !has(a, self.set) || may_flow(self.policy, a, self.to)
-    }
+// Label a, where it is in the set, flows to a label.
+fn flows_if<P: Policy>(policy: &P, set: usize, to: usize, a: usize) -> bool
+    ensures { result ≡ flows_if (P.Policy.flows policy.now) set to a }
+{
+    !has(a, set) || may_flow(policy, a, to)
 }
 
 // Every label of the set flows to a label.
 pub(crate) fn all_flow<P: Policy>(policy: &P, set: usize, to: usize) -> bool
     ensures { result ≡ all_flow (P.Policy.flows policy.now) set to }
 {
-    let label = FlowsIf { policy, set, to };
-    all(&label, 32)
+    all(32, |a| flows_if(policy, set, to, a))
 }

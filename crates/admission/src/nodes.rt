@@ -1,4 +1,4 @@
-// Questions 34 and 35: every node keeps its type rule and its control rule.
+//! Questions 34 and 35: every node keeps its type rule and its control rule.
 ghost use Rattle.std.specs.Prelude.{◌≡◌};
 ghost use Rattle.sheet.specs.Sheet.{view};
 ghost use Rattle.admission.specs.Questions.{rules_kept};
@@ -6,21 +6,14 @@ ghost use Rattle.admission.specs.Verdict.{broken, rules_verdict};
 
 use super::question::Question;
 use sheet::property::first_no;
-use sheet::{Property, Refusal, Table};
+use sheet::{Refusal, Table};
 use typing::rules::{controlled, typed};
 
-// Each node keeps both rules.
-#[derive(Clone, Copy)]
-struct RulesKept<'a> {
-    table: Table<'a>,
-}
-
-impl Property for RulesKept<'_> {
-    ghost says = { λ q. rules_kept (view q.table.rows.now) };
-
-    fn holds(&self, i: usize) -> bool {
-        typed(self.table, i) && controlled(self.table, i)
-    }
+// Node i keeps both rules.
+fn rules_kept(table: &Table, i: usize) -> bool
+    ensures { result ≡ rules_kept (view table.now.rows.now) i }
+{
+    typed(table, i) && controlled(table, i)
 }
 
 // The rule that a node breaks, by whether it keeps its type rule, which is asked first.
@@ -35,11 +28,10 @@ fn broken(keeps_type_rule: bool) -> Question
 }
 
 // Asks question 34 and then question 35 of a node before the next node.
-pub(crate) fn check_nodes(table: Table) -> Result<(), Refusal<Question>>
-    ensures { result ≡ rules_verdict (view table.entry.rows.now) }
+pub(crate) fn check_nodes(table: &Table) -> Result<(), Refusal<Question>>
+    ensures { result ≡ rules_verdict (view table.now.rows.now) }
 {
-    let kept = RulesKept { table };
-    match first_no(&kept, table.nodes) {
+    match first_no(table.nodes, |i| rules_kept(table, i)) {
         None => Ok(()),
         Some(i) => Err(Refusal {
             question: broken(typed(table, i)),

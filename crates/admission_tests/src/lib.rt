@@ -11,13 +11,13 @@ use policy::Policy;
 use shaping::Shaped;
 use sheet::Refusal;
 
-// Checks and then admits: how many rows the admitted sheet has, or its refusal.
+/// Checks and then admits: how many rows the admitted sheet has, or its refusal.
 pub fn admitted_rows<P: Policy>(sheet: Shaped, policy: &P) -> Result<usize, Refusal<Question>>
-    ensures { result ≡ counted (admission_verdict (P.Policy.size policy.now) (P.Policy.flows policy.now) (view sheet.entry.rows.now)) (length sheet.entry.rows.now) }
+    ensures { result ≡ counted (admission_verdict (P.Policy.size policy.now) (P.Policy.flows policy.now) (view sheet.entry.table.rows.now)) (length sheet.entry.table.rows.now) }
 {
     check(&sheet, policy)?;
     let admitted = admit(sheet, policy);
-    Ok(admitted.rows.len())
+    Ok(admitted.shaped.table.rows.len())
 }
 
 #[cfg(test)]

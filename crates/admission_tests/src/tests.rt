@@ -28,38 +28,37 @@ fn row(letter: char, a: i64, b: i64, c: i64, d: i64, e: i64) -> Row {
 
 // Labels 0, 1 and 2: 0 flows to 1, and 1 to 2.
 fn in_steps() -> Result<PairList, Fail> {
-    let Ok(mut policy) = PairList::new(3) else {
-        return Err(Fail::new("labels"));
-    };
-    let _ = policy.allow(0, 1);
-    let _ = policy.allow(1, 2);
+    let mut policy = PairList::new(3)?;
+    policy.allow(0, 1)?;
+    policy.allow(1, 2)?;
     Ok(policy)
 }
 
-// 1000 times the number of the question, and the row.
-fn code(question: u8, row: usize) -> usize {
-    question as usize * 1000 + row % 1000
-}
+// The fields of a row.
+type Fields = (char, i64, i64, i64, i64, i64);
 
-// The code of the first question of shaping or admission that is answered no; 0 where the sheet is
-// admitted.
-fn verdict<P: Policy>(rows: &[Row], policy: &P) -> usize {
+// The number of the first question that is answered no, and the row that it names.
+type Verdict = Result<(), (u8, usize)>;
+
+// A row's number, what is put there, and the verdict on the sheet.
+type Change = (usize, Fields, Verdict);
+
+// Shapes and admits a sheet.
+fn verdict<P: Policy>(rows: &[Row], policy: &P) -> Verdict {
     let draft = Draft::new(rows);
-    match draft.check() {
-        Err(e) => code(e.question.number(), e.row),
-        Ok(()) => match admitted_rows(draft.shape(), policy) {
-            Err(e) => code(e.question.number(), e.row),
-            Ok(_) => 0,
-        },
+    if let Err(e) = draft.check() {
+        return Err((e.question.number(), e.row));
+    }
+    match admitted_rows(draft.shape(), policy) {
+        Ok(_) => Ok(()),
+        Err(e) => Err((e.question.number(), e.row)),
     }
 }
 
-// A row's number, the row that is put there, and the verdict on the sheet.
-type Change = (usize, char, i64, i64, i64, i64, i64, usize);
-
-fn put(rows: &mut [Row], c: &Change) {
-    if c.0 < rows.len() {
-        rows[c.0] = row(c.1, c.2, c.3, c.4, c.5, c.6);
+fn put(rows: &mut [Row], change: &Change) {
+    let (letter, a, b, c, d, e) = change.1;
+    if let Some(place) = rows.get_mut(change.0) {
+        *place = row(letter, a, b, c, d, e);
     }
 }
 
@@ -69,7 +68,7 @@ fn run<const N: usize>(rt: &impl Abort, sheet: [Row; N], changes: &[Change]) -> 
     for c in changes {
         let mut rows = sheet;
         put(&mut rows, c);
-        assert_eq!(rt; verdict(&rows, &policy), c.7);
+        assert_eq!(rt; verdict(&rows, &policy), c.2);
     }
     Ok(())
 }
@@ -80,7 +79,7 @@ fn walk<const N: usize>(rt: &impl Abort, sheet: [Row; N], changes: &[Change]) ->
     let mut rows = sheet;
     for c in changes {
         put(&mut rows, c);
-        assert_eq!(rt; verdict(&rows, &policy), c.7);
+        assert_eq!(rt; verdict(&rows, &policy), c.2);
     }
     Ok(())
 }

@@ -13,41 +13,15 @@ use std::{env, fs, io};
 
 const PLACES: usize = 1024;
 
-const BLANK: Row = Row {
-    letter: '?',
-    a: 0,
-    b: 0,
-    c: 0,
-    d: 0,
-    e: 0,
-};
-
-// The question that refuses the sheet, and its row; 0 where it is admitted.
-#[derive(Clone, Copy)]
-struct Verdict {
-    question: u8,
-    row: usize,
-}
-
-fn verdict_on<P: Policy>(rows: &[Row], policy: &P) -> Verdict {
+// The number of the question that refuses the sheet, and its row; none where it is admitted.
+fn verdict_on<P: Policy>(rows: &[Row], policy: &P) -> Option<(u8, usize)> {
     let draft = Draft::new(rows);
     if let Err(refusal) = draft.check() {
-        return Verdict {
-            question: refusal.question.number(),
-            row: refusal.row,
-        };
+        return Some((refusal.question.number(), refusal.row));
     }
-    let shaped = draft.shape();
-    match admission::check(&shaped, policy) {
-        Ok(()) => Verdict {
-            question: 0,
-            row: 0,
-        },
-        Err(refusal) => Verdict {
-            question: refusal.question.number(),
-            row: refusal.row,
-        },
-    }
+    admission::check(&draft.shape(), policy)
+        .err()
+        .map(|refusal| (refusal.question.number(), refusal.row))
 }
 
 // The verdict, and how many nanoseconds it took.
@@ -55,7 +29,7 @@ fn timed_check<P: Policy>(
     rt: &HostRuntime,
     rows: &[Row],
     policy: &P,
-) -> io::Result<(Verdict, u128)> {
+) -> io::Result<(Option<(u8, usize)>, u128)> {
     let start = Instant::now(rt)?;
     let verdict = verdict_on(rows, policy);
     Ok((verdict, start.elapsed(rt)?.as_nanos()))
@@ -68,7 +42,7 @@ fn bench_file<P: Policy>(
     policy: &P,
 ) -> anyhow::Result<()> {
     let text = fs::read(rt, name)?;
-    let mut table = vec![in rt.alloc(); BLANK; PLACES]?;
+    let mut table = vec![in rt.alloc(); Row::BLANK; PLACES]?;
     let Ok(count) = read_sheet(text.as_slice(), table.as_mut_slice()) else {
         return Err(anyhow!("the sheet cannot be read"));
     };
@@ -79,8 +53,7 @@ fn bench_file<P: Policy>(
         answer = again;
         shortest = shortest.min(spent);
     }
-    let question = answer.question;
-    let row = answer.row;
+    let (question, row) = answer.unwrap_or((0, 0)); // 0 says that the sheet is admitted
     println!(rt; "{name}: {count} rows, question {question}, row {row}")?;
     eprintln!(rt; "{name}: {shortest} ns")?;
     Ok(())

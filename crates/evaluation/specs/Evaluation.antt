@@ -5,7 +5,9 @@ use Rattle.std.specs.List.{slice_get}
 use Rattle.number.specs.NumberKind.{NumberKind}
 use Rattle.sheet.specs.declared.decoded.Kind.{Kind}
 use Rattle.sheet.specs.declared.decoded.Kind.TheVariants.{Literal, Variable, Lambda, Application, New, Channel, Read, Write, Choice, Operation, Unknown}
-use Rattle.sheet.specs.Sheet.{Sheet, last_part, part}
+use Rattle.sheet.specs.declared.decoded.Operator.{Operator}
+use Rattle.sheet.specs.declared.decoded.Operator.TheVariants as operator
+use Rattle.sheet.specs.Sheet.{Sheet, operator_of, last_part, part}
 use Rattle.evaluation.specs.declared.ending.Stop.TheVariants.{FuelSpent, PendingFull, BindingsFull, CellsFull, Stuck}
 use Rattle.evaluation.specs.Values.{Value, number, closure, reference, Environment, bind, Cell, State, Outcome, done, stopped, Evaluator, lookup, and_then, provided, with_cells, one_step, one_binding}
 
@@ -19,11 +21,18 @@ most_bindings = 1024
 abbrev pub most_fresh : ℕ
 most_fresh = 512
 
+-- what an operation does
+abbrev pub operate_as : (M : NumberKind) → Operator → M.Value → M.Value → M.Value
+operate_as M operator.Add = M.sum
+operate_as M operator.Subtract = M.difference
+operate_as M operator.Multiply = M.product
+operate_as M operator.Divide = M.quotient
+operate_as M operator.Less = M.less
+operate_as M operator.Equal = M.equal
+
 -- the operation that a node's argument names
 abbrev pub operation : (M : NumberKind) → ℕ → M.Value → M.Value → M.Value
-operation M w =
-    cond (w == 0) M.sum (cond (w == 1) M.difference (cond (w == 2) M.product
-    (cond (w == 3) M.quotient (cond (w == 4) M.less M.equal))))
+operation M w = operate_as M (operator_of w)
 
 module _ {V : Type 0} where
   -- the value at node i had the wrong form

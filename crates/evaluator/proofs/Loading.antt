@@ -4,38 +4,46 @@ use Rattle.std.specs.List.{slice_get}
 use Rattle.std.proofs.lemmas.Bool.{lt-ltb, cond-true}
 use Rattle.machine.specs.declared.values.Value.TheVariants.{Number}
 use Rattle.machine.specs.declared.values.Cell.{Cell}
-use Rattle.evaluator.specs.Runs.{opened, number_in, taken, repeated}
+use Rattle.evaluator.specs.Runs.{opened, padded, number_in, taken, repeated}
 
 module _ {K : Type 0} where
-  -- one cell more
-  opened_more : (s : ℕ) (ks : List K) (i : ℕ) (x : K) → i < length ks → x ≡ get_or ks i x
-      → opened s (take (suc i) ks) ≡ opened s (take i ks) ++ record { site = s + i; value = Number x } ∷ []
-  opened_more s [] i x h e = absurd (omega arith)
-  opened_more s (k ∷ ks) zero x h e =
-      let q : s ≡ s + 0 = omega arith in
-      ap (λ (y : K). record { site = s; value = Number y } ∷ []) (sym e) ∙ ap (λ (y : ℕ). record { site = y; value = Number x } ∷ []) q
-  opened_more s (k ∷ ks) (suc i) x h e =
+  -- one site more
+  opened_more : (s i : ℕ) (z : K) (xs : List K)
+      → opened s (padded (suc i) z xs) ≡ opened s (padded i z xs) ++ record { site = s + i; value = Number (get_or xs i z) } ∷ []
+  opened_more s zero z [] = let q : s ≡ s + 0 = omega arith in ap (λ (y : ℕ). record { site = y; value = Number z } ∷ []) q
+  opened_more s zero z (x ∷ xs) = let q : s ≡ s + 0 = omega arith in ap (λ (y : ℕ). record { site = y; value = Number x } ∷ []) q
+  opened_more s (suc i) z [] =
       let q : suc s + i ≡ s + suc i = omega arith in
-      ap (λ (l : List (Cell K)). record { site = s; value = Number k } ∷ l)
-      (opened_more (suc s) ks i x (omega arith) e ∙ ap (λ (y : ℕ). opened (suc s) (take i ks) ++ record { site = y; value = Number x } ∷ []) q)
+      ap (λ (l : List (Cell K)). record { site = s; value = Number z } ∷ l)
+      (opened_more (suc s) i z [] ∙ ap (λ (y : ℕ). opened (suc s) (padded i z []) ++ record { site = y; value = Number z } ∷ []) q)
+  opened_more s (suc i) z (x ∷ xs) =
+      let q : suc s + i ≡ s + suc i = omega arith in
+      ap (λ (l : List (Cell K)). record { site = s; value = Number x } ∷ l)
+      (opened_more (suc s) i z xs ∙ ap (λ (y : ℕ). opened (suc s) (padded i z xs) ++ record { site = y; value = Number (get_or xs i z) } ∷ []) q)
 
   -- a cell for each number
   opened_length : (s : ℕ) (ks : List K) → length (opened s ks) ≡ length ks
   opened_length s [] = refl
   opened_length s (k ∷ ks) = ap suc (opened_length (suc s) ks)
 
+  -- a number for each site
+  padded_length : (sites : ℕ) (z : K) (xs : List K) → length (padded sites z xs) ≡ sites
+  padded_length zero z xs = refl
+  padded_length (suc sites) z [] = ap suc (padded_length sites z [])
+  padded_length (suc sites) z (x ∷ xs) = ap suc (padded_length sites z xs)
+
   -- the loop's step, where there is room
-  pub loads : (ks : List K) (held after : List (Cell K)) (i m : ℕ) (x : K) (r : Bool) → length ks ≤ m → i < length ks → x ≡ get_or ks i x
-      → held ≡ opened 0 (take i ks) → r ≡ ltb (length held) m → after ≡ cond r (held ++ record { site = i; value = Number x } ∷ []) held
-      → after ≡ opened 0 (take (i + 1) ks)
-  loads ks held after i m x r fits h e inv er ea =
-      let n : length held ≡ i = ap length inv ∙ opened_length 0 (take i ks) ∙ length-take-le _ _ (omega arith) in
+  pub loads : (sites : ℕ) (xs : List K) (held after : List (Cell K)) (i m : ℕ) (x z : K) (r : Bool) → sites ≤ m → i < sites → x ≡ get_or xs i z
+      → held ≡ opened 0 (padded i z xs) → r ≡ ltb (length held) m → after ≡ cond r (held ++ record { site = i; value = Number x } ∷ []) held
+      → after ≡ opened 0 (padded (i + 1) z xs)
+  loads sites xs held after i m x z r fits h e inv er ea =
+      let n : length held ≡ i = ap length inv ∙ opened_length 0 (padded i z xs) ∙ padded_length i z xs in
       let q : 0 + i ≡ i = omega arith in
       ea ∙ cond-true r _ _ (er ∙ lt-ltb _ _ (omega arith))
-      ∙ ap (λ (l : List (Cell K)). l ++ record { site = i; value = Number x } ∷ []) inv
-      ∙ ap (λ (y : ℕ). opened 0 (take i ks) ++ record { site = y; value = Number x } ∷ []) (sym q)
-      ∙ sym (opened_more 0 ks i x h e)
-      ∙ ap (λ (y : ℕ). opened 0 (take y ks)) (sym (add-one i))
+      ∙ ap₂ (λ (l : List (Cell K)) (y : K). l ++ record { site = i; value = Number y } ∷ []) inv e
+      ∙ ap (λ (y : ℕ). opened 0 (padded i z xs) ++ record { site = y; value = Number (get_or xs i z) } ∷ []) (sym q)
+      ∙ sym (opened_more 0 i z xs)
+      ∙ ap (λ (y : ℕ). opened 0 (padded y z xs)) (sym (add-one i))
 
   -- no cell at this place
   pub taken_none : (cs : List (Cell K)) (ks : List K) (i : ℕ) → None ≡ slice_get cs i → taken (take i cs) ks ≡ taken (take (i + 1) cs) ks
@@ -76,32 +84,19 @@ module _ {K : Type 0} where
   taken_all (c ∷ cs) (k ∷ ks) zero h = absurd (omega arith)
   taken_all (c ∷ cs) (k ∷ ks) (suc i) h = ap (λ (l : List K). number_in c.value k ∷ l) (taken_all cs ks i (omega arith))
 
-  -- one cell more of the same number
-  repeated_more : (s i : ℕ) (x : K) → opened s (repeated (suc i) x) ≡ opened s (repeated i x) ++ record { site = s + i; value = Number x } ∷ []
-  repeated_more s zero x = let q : s ≡ s + 0 = omega arith in ap (λ (y : ℕ). record { site = y; value = Number x } ∷ []) q
-  repeated_more s (suc i) x =
-      let q : suc s + i ≡ s + suc i = omega arith in
-      ap (λ (l : List (Cell K)). record { site = s; value = Number x } ∷ l)
-      (repeated_more (suc s) i x ∙ ap (λ (y : ℕ). opened (suc s) (repeated i x) ++ record { site = y; value = Number x } ∷ []) q)
+-- the values of the numbers, where z has the value v
+pub map_padded : {K V : Type 0} (f : K → V) (sites : ℕ) (z : K) (v : V) (xs : List K) → f z ≡ v → map f (padded sites z xs) ≡ padded sites v (map f xs)
+map_padded f zero z v xs e = refl
+map_padded f (suc sites) z v [] e = ap₂ (λ y l. y ∷ l) e (map_padded f sites z v [] e)
+map_padded f (suc sites) z v (x ∷ xs) e = ap (λ l. f x ∷ l) (map_padded f sites z v xs e)
 
-  repeated_length : (i : ℕ) (x : K) → length (repeated i x) ≡ i
-  repeated_length zero x = refl
-  repeated_length (suc i) x = ap suc (repeated_length i x)
+-- with a number for each site nothing is padded, and without numbers all of it is
+pub padded_full : {V : Type 0} (sites : ℕ) (z : V) (xs : List V) → length xs ≡ sites → padded sites z xs ≡ xs
+padded_full zero z [] e = refl
+padded_full zero z (x ∷ xs) e = absurd (omega arith)
+padded_full (suc sites) z [] e = absurd (omega arith)
+padded_full (suc sites) z (x ∷ xs) e = ap (λ l. x ∷ l) (padded_full sites z xs (omega arith))
 
-  -- the loop's step, where there is room
-  pub fills : (count : ℕ) (held after : List (Cell K)) (i m : ℕ) (x : K) (r : Bool) → count ≤ m → i < count
-      → held ≡ opened 0 (repeated i x) → r ≡ ltb (length held) m → after ≡ cond r (held ++ record { site = i; value = Number x } ∷ []) held
-      → after ≡ opened 0 (repeated (i + 1) x)
-  fills count held after i m x r fits h inv er ea =
-      let n : length held ≡ i = ap length inv ∙ opened_length 0 (repeated i x) ∙ repeated_length i x in
-      let q : 0 + i ≡ i = omega arith in
-      ea ∙ cond-true r _ _ (er ∙ lt-ltb _ _ (omega arith))
-      ∙ ap (λ (l : List (Cell K)). l ++ record { site = i; value = Number x } ∷ []) inv
-      ∙ ap (λ (y : ℕ). opened 0 (repeated i x) ++ record { site = y; value = Number x } ∷ []) (sym q)
-      ∙ sym (repeated_more 0 i x)
-      ∙ ap (λ (y : ℕ). opened 0 (repeated y x)) (sym (add-one i))
-
--- the values of equal numbers
-pub map_repeated : {K V : Type 0} (f : K → V) (i : ℕ) (x : K) (v : V) → f x ≡ v → map f (repeated i x) ≡ repeated i v
-map_repeated f zero x v e = refl
-map_repeated f (suc i) x v e = ap₂ (λ y l. y ∷ l) e (map_repeated f i x v e)
+pub padded_none : {V : Type 0} (sites : ℕ) (z : V) → padded sites z [] ≡ repeated sites z
+padded_none zero z = refl
+padded_none (suc sites) z = ap (λ l. z ∷ l) (padded_none sites z)

@@ -110,5 +110,5 @@ module _ {K : Type 0} (M : NumberKind) (S : Sheet) (n : K → M.Value) (fits : (
   pub tells_as_defined : concluded n (M.whole (pos 0)) r ≡ run_report M S fuel e (map n ks)
   tells_as_defined = same_told n (M.whole (pos 0)) [] (run M S fuel e (map n ks)) r bs' cs' ends
 
-  pub keeps_as_defined : map n (kept r cs' ks) ≡ numbers_after (run M S fuel e (map n ks)) (map n ks)
-  keeps_as_defined = same_kept n [] (run M S fuel e (map n ks)) r bs' cs' ks ends
+  pub keeps_as_defined : (xs : List K) → map n (kept r cs' xs) ≡ numbers_after (run M S fuel e (map n ks)) (map n xs)
+  keeps_as_defined xs = same_kept n [] (run M S fuel e (map n ks)) r bs' cs' xs ends

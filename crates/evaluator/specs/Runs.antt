@@ -1,20 +1,27 @@
 -- What the code holds before, in and after a run, with each number by its value.
-use Rattle.std.specs.Prelude.{ℕ, zero, suc, ◌+◌, List, [], ◌∷◌}
+use Rattle.std.specs.Prelude.{ℕ, zero, suc, ◌+◌, ◌≤◌, List, [], ◌∷◌, length}
 use Rattle.sheet.specs.Sheet.{Sheet}
 use Rattle.evaluation.specs.declared.ending.Ending.TheVariants as ending
-use Rattle.evaluation.specs.Evaluation.{most_bindings, most_fresh}
+use Rattle.evaluation.specs.Evaluation.{most_pending, most_bindings, most_fresh}
 use Rattle.evaluation.specs.Runs.{Report as Told}
 use Rattle.machine.specs.declared.values.Value.{Value}
 use Rattle.machine.specs.declared.values.Value.TheVariants.{Number, Closure, Reference}
 use Rattle.machine.specs.declared.values.Cell.{Cell}
 use Rattle.machine.specs.declared.values.Outcome.{Outcome}
 use Rattle.machine.specs.declared.values.Outcome.TheVariants.{Done, Stopped}
+use Rattle.machine.specs.declared.areas.WorkAreas.{WorkAreas}
 use Rattle.machine.specs.Flat.{Limits}
 use Rattle.evaluator.specs.declared.report.Report.{Report}
 
 -- how many bindings and how many cells a run of the sheet may have
 abbrev pub limits : Sheet → Limits
 limits S = record { bindings = most_bindings; cells = S.sites + most_fresh }
+
+-- the areas have the places that a run of the sheet may need
+pub record HasRoom {K : Type 0} (S : Sheet) (areas : WorkAreas K) : Type 0 where
+  pub pending : most_pending ≤ length areas.pending.now
+  pub bound : most_bindings ≤ length areas.bound.now
+  pub held : S.sites + most_fresh ≤ length areas.held.now
 
 module _ {K V : Type 0} (n : K → V) where
   -- the report of the code
@@ -52,6 +59,12 @@ module _ {K : Type 0} where
   kept (Done (Closure f k) t) cs xs = xs
   kept (Done (Reference a) t) cs xs = xs
   kept (Stopped e t) cs xs = xs
+
+-- the numbers of so many sites: those given, and z at the others
+abbrev pub padded : {A : Type 0} → ℕ → A → List A → List A
+padded zero z xs = []
+padded (suc sites) z [] = z ∷ padded sites z []
+padded (suc sites) z (x ∷ xs) = x ∷ padded sites z xs
 
 -- the number x, count times
 abbrev pub repeated : {A : Type 0} → ℕ → A → List A

@@ -2,8 +2,8 @@
 use Rattle.std.specs.Prelude.{◌≡◌, ℕ, Bool, cond, ◌&&◌, pos, Ok, Err, Result, nat_le, nat_lt}
 use Rattle.number.specs.NumberKind.{NumberKind}
 use Rattle.sheet.specs.Sheet.{Sheet}
-use Rattle.evaluation.specs.Evaluation.{most_pending, most_bindings}
 use Rattle.evaluation.specs.Runs.{Report as Told, run_report}
+use Rattle.machine.specs.Areas.{enough}
 use Rattle.evaluator.specs.declared.report.Report.{Report}
 use Rattle.evaluator.specs.declared.refusal.Refusal.{Refusal}
 use Rattle.evaluator.specs.declared.refusal.Refusal.TheVariants.{Entry, Fuel, Areas}
@@ -19,22 +19,14 @@ number_of Areas = 45
 abbrev pub lawful_fuel : ℕ → Bool
 lawful_fuel fuel = nat_le 1 fuel && nat_le fuel 1000000
 
--- places for the cells of any sheet: 32 sites and 512 fresh cells
-abbrev pub most_cells : ℕ
-most_cells = 544
-
--- 45: the areas for pending nodes, bindings and cells are long enough
-abbrev pub roomy : ℕ → ℕ → ℕ → Bool
-roomy pending bound held = nat_le most_pending pending && (nat_le most_bindings bound && nat_le most_cells held)
-
 -- what a run with every channel at 0 tells
 abbrev pub trial_report : (M : NumberKind) → Sheet → (fuel e : ℕ) → Told M.Value
 trial_report M S fuel e = run_report M S fuel e (repeated S.sites (M.whole (pos 0)))
 
--- the questions in this order
+-- the questions in this order; the last is whether the areas for pending nodes, bindings and cells are long enough
 abbrev pub trial_verdict : Sheet → (e fuel pending bound held : ℕ) → Result (Unit {0}) Refusal
 trial_verdict S e fuel pending bound held =
-    cond (nat_lt e S.entries) (cond (lawful_fuel fuel) (cond (roomy pending bound held) (Ok tt) (Err Areas)) (Err Fuel)) (Err Entry)
+    cond (nat_lt e S.entries) (cond (lawful_fuel fuel) (cond (enough pending bound held) (Ok tt) (Err Areas)) (Err Fuel)) (Err Entry)
 
 -- the report where every question is answered yes
 abbrev pub granted : {A : Type 0} → Result (Unit {0}) Refusal → A → Result A Refusal

@@ -10,4 +10,4 @@ pub mod trials;
 pub use refusal::Refusal;
 pub use report::Report;
 pub use runs::evaluate;
-pub use trials::trial;
+pub use trials::{is_lawful_fuel, trial};

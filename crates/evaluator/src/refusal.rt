@@ -1,14 +1,16 @@
 ghost use Rattle.std.specs.Prelude.{◌≡◌};
 ghost use Rattle.evaluator.specs.Trials.{«number_of»};
 
+use thiserror::Error;
+
 // What a trial is refused for, in this order.
-#[derive(Clone, Copy, PartialEq, Debug)]
+#[derive(Clone, Copy, PartialEq, Eq, Debug, Error)]
 pub enum Refusal {
-    // There is no such entry.
+    #[error("the sheet has no such entry")]
     Entry,
-    // The fuel is not from 1 to 1,000,000.
+    #[error("fuel is 1 to 1,000,000 steps")]
     Fuel,
-    // A work area is too short.
+    #[error("a work area is too short")]
     Areas,
 }
 

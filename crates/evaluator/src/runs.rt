@@ -1,31 +1,30 @@
 // A run of an entry: copies of the channels' numbers go into the cells of the sites, the machine runs
 // over them, and the numbers go back only where the run ended in a number.
-ghost use Rattle.std.specs.Prelude.{◌≡◌, ℕ, ◌+◌, ◌≤◌, true, List, [], map, length, pos};
+ghost use Rattle.std.specs.Prelude.{◌≡◌, ◌≤◌, [], map, length, pos};
 ghost use Rattle.stack.specs.Live.{live, room};
-ghost use Rattle.sheet.specs.Asked.{passed};
 ghost use Rattle.sheet.specs.Sheet.{view};
-ghost use Rattle.shaping.specs.Verdict.{shape_verdict};
-ghost use Rattle.evaluation.specs.Evaluation.{most_pending, most_bindings, most_fresh};
 ghost use Rattle.evaluation.specs.Runs.{run as outcome, run_report, «numbers_after»};
-ghost use Rattle.evaluator.specs.Runs.{reported, concluded, opened, «number_in», taken, kept};
+ghost use Rattle.machine.specs.Areas.{SameLoans};
+ghost use Rattle.evaluator.specs.Runs.{reported, concluded, opened, padded, HasRoom, «number_in», taken, kept};
 
 use super::report::Report;
 use evaluation::Ending;
-use machine::{Binding, Cell, Frame, Outcome, Value, run};
+use machine::{Cell, Outcome, Value, WorkAreas, run};
 use number::Number;
-use sheet::Table;
+use shaping::Shaped;
 use stack::BoundedStack;
 
-// A cell for each number.
-fn load<K: Number>(cells: &mut BoundedStack<Cell<K>>, numbers: &[K])
-    requires { (live cells.old ≡ []) × (length numbers.now ≤ room cells.old) }
+// A cell for each site, with the site's number; the sites past the numbers begin at `zero`.
+fn load<K: Number>(cells: &mut BoundedStack<Cell<K>>, sites: usize, numbers: &[K], zero: K)
+    requires { (live cells.old ≡ []) × (sites ≤ room cells.old) }
     ensures places { room cells.new ≡ room cells.old }
-    ensures held { live cells.new ≡ opened 0 numbers.now }
+    ensures held { live cells.new ≡ opened 0 (padded sites zero numbers.now) }
 {
-    for (site, number) in numbers.iter().enumerate() {
+    for site in 0..sites {
+        let number = numbers.get(site).copied().unwrap_or(zero);
         let _ = cells.push(Cell {
             site,
-            value: Value::Number(*number),
+            value: Value::Number(number),
         });
     }
 }
@@ -36,8 +35,7 @@ fn number_in<K: Number>(value: Value<K>, old: K) -> K
 {
     match value {
         Value::Number(number) => number,
-        Value::Closure { node: _, scope: _ } => old,
-        Value::Reference(_) => old,
+        Value::Closure { .. } | Value::Reference(_) => old,
     }
 }
 
@@ -45,10 +43,9 @@ fn number_in<K: Number>(value: Value<K>, old: K) -> K
 fn take<K: Number>(cells: &BoundedStack<Cell<K>>, numbers: &mut [K])
     ensures { numbers.new ≡ taken (live cells.now) numbers.old }
 {
-    for i in 0..numbers.len() {
-        if let Some(cell) = cells.get(i) {
-            let number = number_in(cell.value, numbers[i]);
-            numbers[i] = number;
+    for (site, number) in numbers.iter_mut().enumerate() {
+        if let Some(cell) = cells.get(site) {
+            *number = number_in(cell.value, *number);
         }
     }
 }
@@ -98,25 +95,25 @@ pub fn conclude<K: Number>(outcome: Outcome<K>) -> Report<K>
     }
 }
 
-// Loads the cells, runs, and takes the numbers back.
-fn run_entry<K: Number>(
-    table: &Table,
+// Runs an entry of a shaped sheet whose first sites hold the numbers given, and whose others hold 0.
+pub(crate) fn run_entry<K: Number>(
+    sheet: &Shaped,
     numbers: &mut [K],
-    pending: &mut [Frame<K>],
-    bound: &mut [Binding<K>],
-    held: &mut [Cell<K>],
+    areas: &mut WorkAreas<K>,
     entry: usize,
     fuel: usize,
 ) -> Report<K>
-    requires { (passed (shape_verdict table.now.rows.now) ≡ true) × ((length numbers.old ≡ (view table.now.rows.now).sites) × ((most_pending ≤ length pending.old) × ((most_bindings ≤ length bound.old) × ((view table.now.rows.now).sites + most_fresh ≤ length held.old)))) }
-    ensures answer { reported K.Number.value result ≡ run_report K.Number.kind (view table.now.rows.now) fuel entry (map K.Number.value numbers.old) }
-    ensures left { map K.Number.value numbers.new ≡ numbers_after (outcome K.Number.kind (view table.now.rows.now) fuel entry (map K.Number.value numbers.old)) (map K.Number.value numbers.old) }
+    requires areas { HasRoom (view sheet.now.table.rows.now) areas.old }
+    ensures answer { let S = view sheet.now.table.rows.now in let ns = padded S.sites (K.Number.kind.whole (pos 0)) (map K.Number.value numbers.old) in reported K.Number.value result ≡ run_report K.Number.kind S fuel entry ns }
+    ensures left { let S = view sheet.now.table.rows.now in let ns = padded S.sites (K.Number.kind.whole (pos 0)) (map K.Number.value numbers.old) in map K.Number.value numbers.new ≡ numbers_after (outcome K.Number.kind S fuel entry ns) (map K.Number.value numbers.old) }
+    ensures loans { SameLoans areas.old areas.new }
 {
+    let table = &sheet.table;
     let root = table.entry_at(entry).root;
-    let mut frames = BoundedStack::new(&mut pending[0..1024]);
-    let mut bindings = BoundedStack::new(&mut bound[0..1024]);
-    let mut cells = BoundedStack::new(&mut held[0..table.sites + 512]);
-    load(&mut cells, numbers);
+    let mut frames = BoundedStack::new(&mut areas.pending[0..1024]);
+    let mut bindings = BoundedStack::new(&mut areas.bound[0..1024]);
+    let mut cells = BoundedStack::new(&mut areas.held[0..table.sites + 512]);
+    load(&mut cells, table.sites, numbers, K::from_whole(0));
     let outcome = run(table, &mut frames, &mut bindings, &mut cells, root, fuel);
     keep(outcome, &cells, numbers);
     conclude(outcome)
@@ -126,17 +123,17 @@ fn run_entry<K: Number>(
 // sites hold after it, is what the definition says. Both depend on the sheet, the entry, the fuel and
 // the numbers alone, so on nothing that the work areas held before.
 pub fn evaluate<K: Number>(
-    table: &Table,
+    sheet: &Shaped,
     numbers: &mut [K],
-    pending: &mut [Frame<K>],
-    bound: &mut [Binding<K>],
-    held: &mut [Cell<K>],
+    areas: &mut WorkAreas<K>,
     entry: usize,
     fuel: usize,
 ) -> Report<K>
-    requires { (passed (shape_verdict table.now.rows.now) ≡ true) × ((length numbers.old ≡ (view table.now.rows.now).sites) × ((most_pending ≤ length pending.old) × ((most_bindings ≤ length bound.old) × ((view table.now.rows.now).sites + most_fresh ≤ length held.old)))) }
-    ensures answer { reported K.Number.value result ≡ run_report K.Number.kind (view table.now.rows.now) fuel entry (map K.Number.value numbers.old) }
-    ensures left { map K.Number.value numbers.new ≡ numbers_after (outcome K.Number.kind (view table.now.rows.now) fuel entry (map K.Number.value numbers.old)) (map K.Number.value numbers.old) }
+    requires numbers { length numbers.old ≡ (view sheet.now.table.rows.now).sites }
+    requires areas { HasRoom (view sheet.now.table.rows.now) areas.old }
+    ensures answer { reported K.Number.value result ≡ run_report K.Number.kind (view sheet.now.table.rows.now) fuel entry (map K.Number.value numbers.old) }
+    ensures left { map K.Number.value numbers.new ≡ numbers_after (outcome K.Number.kind (view sheet.now.table.rows.now) fuel entry (map K.Number.value numbers.old)) (map K.Number.value numbers.old) }
+    ensures loans { SameLoans areas.old areas.new }
 {
-    run_entry(table, numbers, pending, bound, held, entry, fuel)
+    run_entry(sheet, numbers, areas, entry, fuel)
 }

@@ -3,7 +3,7 @@
 #![tactic(auto)]
 
 use evaluator::trial;
-use machine::{Binding, Cell, Frame, Stage, Value};
+use machine::{Binding, Cell, Frame, Stage, Value, WorkAreas};
 use number::Millimetres;
 use shaping::{Draft, Shaped};
 use std::io;
@@ -26,8 +26,13 @@ fn timed_trial(rt: &HostRuntime, sheet: &Shaped) -> io::Result<(usize, u128)> {
         outer: 0,
     }; 1024];
     let mut held = [Cell { site: 0, value }; 544];
+    let mut areas = WorkAreas {
+        pending: &mut pending,
+        bound: &mut bound,
+        held: &mut held,
+    };
     let start = Instant::now(rt)?;
-    let answer = trial(sheet, 0, 1000000, &mut pending, &mut bound, &mut held);
+    let answer = trial(sheet, 0, 1000000, &mut areas);
     let spent = start.elapsed(rt)?.as_nanos();
     match answer {
         Ok(report) => Ok((report.steps, spent)),

@@ -1,7 +1,7 @@
 use super::sheets;
 use evaluation::{Ending, Stop};
 use evaluator::{Report, trial};
-use machine::{Binding, Cell, Frame, Stage, Value};
+use machine::{Binding, Cell, Frame, Stage, Value, WorkAreas};
 use number::{Metres, Millimetres};
 use shaping::{Draft, Question};
 use sheet::{Refusal, Row};
@@ -15,9 +15,7 @@ pub type Told = (u8, i32, usize, usize);
 fn node_of(ending: Ending) -> usize {
     match ending {
         Ending::Stopped(Stop::Stuck { node }) => node,
-        Ending::Stopped(_) => 999,
-        Ending::Number => 999,
-        Ending::NoNumber => 999,
+        _ => 999,
     }
 }
 
@@ -56,19 +54,15 @@ fn tried_with(
     if places > 1030 {
         return Ok((0, 0, 0, 0));
     }
-    Ok(
-        match trial(
-            &sheet,
-            entry,
-            fuel,
-            &mut pending[0..places],
-            &mut bound,
-            &mut held,
-        ) {
-            Ok(report) => told(report),
-            Err(refusal) => (refusal.number(), 0, 0, 999),
-        },
-    )
+    let mut areas = WorkAreas {
+        pending: &mut pending[0..places],
+        bound: &mut bound,
+        held: &mut held,
+    };
+    Ok(match trial(&sheet, entry, fuel, &mut areas) {
+        Ok(report) => told(report),
+        Err(refusal) => (refusal.number(), 0, 0, 999),
+    })
 }
 
 // One trial, and what it must come to.
@@ -180,12 +174,15 @@ fn length_of(rows: &[Row]) -> Result<f64, Refusal<Question>> {
         outer: 0,
     }; 1024];
     let mut held = [Cell { site: 0, value }; 544];
-    Ok(
-        match trial(&sheet, 0, 100, &mut pending, &mut bound, &mut held) {
-            Ok(report) => report.number.length,
-            Err(_) => 0.0,
-        },
-    )
+    let mut areas = WorkAreas {
+        pending: &mut pending,
+        bound: &mut bound,
+        held: &mut held,
+    };
+    Ok(match trial(&sheet, 0, 100, &mut areas) {
+        Ok(report) => report.number.length,
+        Err(_) => 0.0,
+    })
 }
 
 #[test]

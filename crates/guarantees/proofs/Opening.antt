@@ -1,8 +1,10 @@
 -- The store that a run begins with, and what is read back from the store that it ends with.
-use Rattle.std.proofs.Common.{◌≡◌, ℕ, zero, suc, ◌+◌, ◌<◌, Bool, true, cond, eqb, ◌⊎◌, List, [], ◌∷◌, length, Some, sym, refl, ap, ◌∙◌, subst, inl, inr, arith}
+use Rattle.std.proofs.Common.{◌≡◌, ℕ, zero, suc, ◌+◌, ◌<◌, Bool, true, cond, ◌⊎◌, List, [], ◌∷◌, length, Some, sym, refl, ap, ◌∙◌, subst, inl, inr, arith}
 use Rattle.std.specs.List.{slice_get}
-use Rattle.std.proofs.lemmas.Bool.{cases_eq, cases_Bool, cond-true, cond-false, cond_both, eq-eqb, eqb-true}
-use Rattle.sheet.specs.Sheet.{Sheet}
+use Rattle.std.proofs.lemmas.Bool.{cases_eq, cases_Bool, cond-true, cond-false, cond_both}
+use Rattle.sheet.specs.declared.decoded.Flag.TheVariants as flag
+use Rattle.sheet.specs.Sheet.{Sheet, is_channel}
+use Rattle.sheet.proofs.Flags.{channel_flag}
 use Rattle.evaluation.specs.Values.{number, Cell}
 use Rattle.evaluation.specs.Runs.{site_cells, number_or, written}
 use Rattle.guarantees.specs.Sheets.{TypedSheet, Channel, Visible, content_set}
@@ -69,17 +71,17 @@ module _ {V : Type 0} (S : Sheet) (ok : TypedSheet S) where
 -- the channels below n, each paired with itself
 unfoldable pub diagonal : Sheet → ℕ → Pairs
 diagonal S zero = []
-diagonal S (suc n) = cond (eqb (S.site n).flag 1) ((n, n) ∷ diagonal S n) (diagonal S n)
+diagonal S (suc n) = cond (is_channel (S.site n).flag) ((n, n) ∷ diagonal S n) (diagonal S n)
 
 module _ (S : Sheet) where
   -- a pair of the diagonal is the last channel's, or one from before
-  diagonal_cases : (n a b : ℕ) → Paired (diagonal S (suc n)) a b → ((n ≡ a) × (n ≡ b) × ((S.site n).flag ≡ 1)) ⊎ Paired (diagonal S n) a b
+  diagonal_cases : (n a b : ℕ) → Paired (diagonal S (suc n)) a b → ((n ≡ a) × (n ≡ b) × ((S.site n).flag ≡ flag.Channel)) ⊎ Paired (diagonal S n) a b
   unfolding diagonal
   diagonal_cases n a b p =
-      elim (cases_Bool (eqb (S.site n).flag 1)) [
+      elim (cases_Bool (is_channel (S.site n).flag)) [
         | inl t ↦
             elim (subst (λ (β : Pairs). Paired β a b) (cond-true _ ((n, n) ∷ diagonal S n) (diagonal S n) t) p) [
-              | inl q ↦ inl (q.0, q.1, eqb-true _ _ t)
+              | inl q ↦ inl (q.0, q.1, channel_flag _ t)
               | inr q ↦ inr q
             ]
         | inr f ↦ inr (subst (λ (β : Pairs). Paired β a b) (cond-false _ ((n, n) ∷ diagonal S n) (diagonal S n) f) p)
@@ -89,22 +91,22 @@ module _ (S : Sheet) where
   diagonal_more : (n a b : ℕ) → Paired (diagonal S n) a b → Paired (diagonal S (suc n)) a b
   unfolding diagonal
   diagonal_more n a b p =
-      cond_both (eqb (S.site n).flag 1) ((n, n) ∷ diagonal S n) (diagonal S n) (λ β. Paired β a b) (λ _. inr p) (λ _. p)
+      cond_both (is_channel (S.site n).flag) ((n, n) ∷ diagonal S n) (diagonal S n) (λ β. Paired β a b) (λ _. inr p) (λ _. p)
 
   -- each channel is paired with itself
-  in_diagonal : (n a : ℕ) → a < n → (S.site a).flag ≡ 1 → Paired (diagonal S n) a a
+  in_diagonal : (n a : ℕ) → a < n → (S.site a).flag ≡ flag.Channel → Paired (diagonal S n) a a
   unfolding diagonal
   in_diagonal zero a l t = absurd (omega arith)
   in_diagonal (suc n) a l t =
       elim (cases_eq n a) [
         | inl e ↦
-            let f : eqb (S.site n).flag 1 ≡ true = eq-eqb _ _ (ap (λ (x : ℕ). (S.site x).flag) e ∙ t) in
+            let f : is_channel (S.site n).flag ≡ true = ap is_channel (ap (λ (x : ℕ). (S.site x).flag) e ∙ t) in
             subst (λ (β : Pairs). Paired β a a) (sym (cond-true _ ((n, n) ∷ diagonal S n) (diagonal S n) f)) (inl (e, e))
         | inr k ↦ diagonal_more n a a (in_diagonal n a (omega arith) t)
       ]
 
   -- and nothing else is paired
-  of_diagonal : (n a b : ℕ) → Paired (diagonal S n) a b → (a ≡ b) × (a < n) × ((S.site a).flag ≡ 1)
+  of_diagonal : (n a b : ℕ) → Paired (diagonal S n) a b → (a ≡ b) × (a < n) × ((S.site a).flag ≡ flag.Channel)
   unfolding diagonal
   of_diagonal zero a b p = absurd p
   of_diagonal (suc n) a b p =

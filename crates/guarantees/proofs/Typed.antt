@@ -2,6 +2,7 @@
 use Rattle.std.proofs.Common.{◌≡◌, ℕ, ◌<◌, true, List, Some}
 use Rattle.std.specs.List.{slice_get}
 use Rattle.sheet.specs.declared.decoded.Form.TheVariants as form
+use Rattle.sheet.specs.declared.decoded.Flag.TheVariants as flag
 use Rattle.sheet.specs.declared.decoded.Kind.TheVariants.{Lambda}
 use Rattle.sheet.specs.Sets.{has}
 use Rattle.sheet.specs.Sheet.{Sheet}
@@ -16,7 +17,7 @@ AtSite {V} cs a s = (c : Cell V) × (slice_get cs a ≡ Some c) × (c.site ≡ s
 
 -- a reference may name address a: a channel's place or a fresh cell, and not the unused place of a fresh site
 abbrev pub Live : Sheet → ℕ → Type 0
-Live S a = a < S.sites → (S.site a).flag ≡ 1
+Live S a = a < S.sites → (S.site a).flag ≡ flag.Channel
 
 module _ {V : Type 0} (S : Sheet) where
   -- the environment binds each variable that node i may name

@@ -1,6 +1,7 @@
 -- What the theorems ask of a sheet, and what an observer may see of it.
 use Rattle.std.specs.Prelude.{◌≡◌, ℕ, ◌<◌, Bool, true}
 use Rattle.sheet.specs.declared.decoded.Form.TheVariants as form
+use Rattle.sheet.specs.declared.decoded.Flag.TheVariants as flag
 use Rattle.sheet.specs.Sets.{has}
 use Rattle.sheet.specs.Sheet.{Sheet, InSpan}
 use Rattle.shaping.specs.Nodes.{lawful_node}
@@ -26,7 +27,7 @@ Inside S i f = InSpan S f i × (i < f)
 
 -- site s is a channel
 abbrev pub Channel : Sheet → ℕ → Type 0
-Channel S s = (s < S.sites) × ((S.site s).flag ≡ 1)
+Channel S s = (s < S.sites) × ((S.site s).flag ≡ flag.Channel)
 
 -- the labels of what the cells of site s hold
 abbrev pub content_set : Sheet → ℕ → ℕ

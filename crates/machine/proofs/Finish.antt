@@ -1,5 +1,5 @@
 -- What the rest of a run makes of where it stands; each step of the machine leaves that as it is.
-use Rattle.std.proofs.Common.{◌≡◌, ℕ, zero, suc, ◌+◌, ◌-◌, ◌<◌, ◌≤◌, Bool, true, false, cond, eqb, ltb, List, [], ◌∷◌, ◌++◌, length, Some, None, Option, sym, refl, ap, ◌∙◌, arith}
+use Rattle.std.proofs.Common.{◌≡◌, ℕ, zero, suc, ◌+◌, ◌-◌, ◌<◌, ◌≤◌, Bool, true, false, cond, eqb, ltb, List, [], ◌∷◌, ◌++◌, length, Some, None, Option, sym, refl, ap, ◌∙◌, arith, length-append}
 use Rattle.std.specs.List.{slice_get}
 use Rattle.number.specs.NumberKind.{NumberKind}
 use Rattle.sheet.specs.declared.decoded.Kind.{Kind}
@@ -11,15 +11,12 @@ use Rattle.machine.specs.declared.values.Cell.{Cell}
 use Rattle.machine.specs.declared.values.Frame.{Frame}
 use Rattle.machine.specs.declared.values.Stage.{Stage}
 use Rattle.machine.specs.declared.values.Stage.TheVariants.{Chooses, Creates, Reads, Calls, Applies, Targets, Writes, Operates, Combines, Passes}
-use Rattle.machine.specs.declared.values.Next.{Next}
-use Rattle.machine.specs.declared.values.Next.TheVariants.{Start, Return, Halt}
 use Rattle.evaluation.specs.declared.ending.Stop.{Stop}
 use Rattle.evaluation.specs.declared.ending.Stop.TheVariants.{FuelSpent, PendingFull, BindingsFull, CellsFull}
 use Rattle.sheet.specs.Sheet.{Sheet, last_part, part}
 use Rattle.machine.specs.Flat.{Limits, FlatState, FlatOutcome, flat_done, flat_stopped, FlatEvaluator, seek, flat_then, flat_provided, one_step, flat_found, flat_loaded, flat_load, flat_stored, flat_store, flat_apply, flat_create, flat_choose, flat_operate, flat_by_kind, flat_eval}
-use Rattle.machine.specs.Seen.{Machine}
+use Rattle.machine.specs.Seen.{Machine, Turn, Start, Return, Halt}
 use Rattle.machine.specs.Steps.{at, framed, pends, gives, halts, looks, reads_at, reads, writes_at, writes, applies, creates, chooses, combines, starts, resumes}
-use Rattle.machine.proofs.Lists.{length_top}
 
 module _ {V : Type 0} where
   abbrev pub state : List (Binding V) → List (Cell V) → ℕ → FlatState V
@@ -55,7 +52,7 @@ module _ (M : NumberKind) (S : Sheet) (L : Limits) (fuel : ℕ) where
   unwind zero (f ∷ fs) o = o
   unwind (suc d) (f ∷ fs) o = resumed (flat_eval M S L fuel d) f (unwind d fs o)
 
-  abbrev pub going : Next V → ℕ → FlatState V → FlatOutcome V
+  abbrev pub going : Turn V → ℕ → FlatState V → FlatOutcome V
   going (Start i k) d s = flat_eval M S L fuel d i k s
   going (Return v) d s = flat_done v s
   going (Halt e) d s = flat_stopped e s.steps
@@ -83,7 +80,7 @@ module _ (M : NumberKind) (S : Sheet) (L : Limits) (fuel : ℕ) where
         → finish d (pends i k g p fs bs cs) t
         ≡ unwind d fs (flat_then (flat_eval M S L fuel e p k (state bs cs t)) (λ v s. after (flat_eval M S L fuel e) g i k v s))
     pends_means i k g p bs cs t =
-        let n : length (fs ++ (framed i k g ∷ [])) ≡ suc (length fs) = length_top fs (framed i k g) in
+        let n : length (fs ++ (framed i k g ∷ [])) ≡ suc (length fs) = omega (arith, length-append fs (framed i k g ∷ [])) in
         let q : d - length (fs ++ (framed i k g ∷ [])) ≡ e = omega arith in
         ap (λ (x : ℕ). unwind d (fs ++ (framed i k g ∷ [])) (flat_eval M S L fuel x p k (state bs cs t))) q
         ∙ top d e fs (framed i k g) (flat_eval M S L fuel e p k (state bs cs t)) h

@@ -12,13 +12,11 @@ use Rattle.machine.specs.declared.values.Cell.{Cell}
 use Rattle.machine.specs.declared.values.Frame.{Frame}
 use Rattle.machine.specs.declared.values.Stage.{Stage}
 use Rattle.machine.specs.declared.values.Stage.TheVariants.{Chooses, Creates, Reads, Calls, Applies, Targets, Writes, Operates, Combines, Passes}
-use Rattle.machine.specs.declared.values.Next.{Next}
-use Rattle.machine.specs.declared.values.Next.TheVariants.{Start, Return, Halt}
 use Rattle.evaluation.specs.declared.ending.Stop.{Stop}
 use Rattle.evaluation.specs.declared.ending.Stop.TheVariants.{BindingsFull, CellsFull, Stuck}
 use Rattle.sheet.specs.Sheet.{Sheet, last_part, part}
 use Rattle.machine.specs.Flat.{Limits, seek}
-use Rattle.machine.specs.Seen.{Machine}
+use Rattle.machine.specs.Seen.{Machine, Turn, Start, Return, Halt}
 use Rattle.machine.specs.Steps.{at, framed, pends, gives, halts, looks, reads_at, reads, writes_at, writes, applies, creates, chooses, combines, starts, resumes}
 
 module _ {V : Type 0} where
@@ -39,7 +37,7 @@ module _ {V : Type 0} where
   load [] = 0
   load (f ∷ fs) = weight f.stage + load fs
 
-  abbrev pub pace : Next V → ℕ
+  abbrev pub pace : Turn V → ℕ
   pace (Start i k) = 2
   pace (Return v) = 1
   pace (Halt e) = 0

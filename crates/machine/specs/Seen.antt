@@ -1,5 +1,5 @@
 -- What the program holds, with each number by its value.
-use Rattle.std.specs.Prelude.{ℕ, List, map, Some, None, Option}
+use Rattle.std.specs.Prelude.{ℕ, List, map, Some, None, Option, Result, Ok, Err}
 use Rattle.machine.specs.declared.values.Value.{Value}
 use Rattle.machine.specs.declared.values.Value.TheVariants.{Number, Closure, Reference}
 use Rattle.machine.specs.declared.values.Binding.{Binding}
@@ -8,14 +8,20 @@ use Rattle.machine.specs.declared.values.Frame.{Frame}
 use Rattle.machine.specs.declared.values.Stage.{Stage}
 use Rattle.machine.specs.declared.values.Stage.TheVariants.{Chooses, Creates, Reads, Calls, Applies, Targets, Writes, Operates, Combines, Passes}
 use Rattle.machine.specs.declared.values.Next.{Next}
-use Rattle.machine.specs.declared.values.Next.TheVariants.{Start, Return, Halt}
+use Rattle.machine.specs.declared.values.Next.TheVariants.{Start as Starts, Return as Returns}
 use Rattle.machine.specs.declared.values.Outcome.{Outcome}
-use Rattle.machine.specs.declared.values.Outcome.TheVariants.{Done, Stopped}
+use Rattle.evaluation.specs.declared.ending.Stop.{Stop}
 use Rattle.machine.specs.Flat.{FlatState, FlatOutcome, flat_done, flat_stopped}
+
+-- what comes next: a node is started, a value comes back, or the run stops
+pub data Turn (V : Type 0) : Type 0 where
+  Start : ℕ → ℕ → Turn V
+  Return : Value V → Turn V
+  Halt : Stop → Turn V
 
 -- what comes next, and what the three stacks hold
 pub record Machine (V : Type 0) : Type 0 where
-  pub next : Next V
+  pub next : Turn V
   pub frames : List (Frame V)
   pub made : List (Binding V)
   pub cells : List (Cell V)
@@ -52,10 +58,10 @@ module _ {K V : Type 0} (n : K → V) where
   abbrev pub frame : Frame K → Frame V
   frame f = record { node = f.node; scope = f.scope; stage = stage f.stage }
 
-  abbrev pub next : Next K → Next V
-  next (Start i k) = Start i k
-  next (Return v) = Return (value v)
-  next (Halt e) = Halt e
+  abbrev pub next : Result (Next K) Stop → Turn V
+  next (Ok (Starts i k)) = Start i k
+  next (Ok (Returns v)) = Return (value v)
+  next (Err e) = Halt e
 
   abbrev pub frames : List (Frame K) → List (Frame V)
   frames fs = map frame fs
@@ -67,12 +73,15 @@ module _ {K V : Type 0} (n : K → V) where
   cells cs = map cell cs
 
   -- the machine, the state, and what the run comes to
-  abbrev pub machine : Next K → List (Frame K) → List (Binding K) → List (Cell K) → Machine V
+  abbrev pub machine : Result (Next K) Stop → List (Frame K) → List (Binding K) → List (Cell K) → Machine V
   machine x fs bs cs = record { next = next x; frames = frames fs; made = bindings bs; cells = cells cs }
 
   abbrev pub flat : List (Binding K) → List (Cell K) → ℕ → FlatState V
   flat bs cs t = record { cells = cells cs; made = bindings bs; steps = t }
 
+  abbrev pub ended : Result (Value K) Stop → ℕ → List (Binding K) → List (Cell K) → FlatOutcome V
+  ended (Ok v) t bs cs = flat_done (value v) (flat bs cs t)
+  ended (Err e) t bs cs = flat_stopped e t
+
   abbrev pub outcome : Outcome K → List (Binding K) → List (Cell K) → FlatOutcome V
-  outcome (Done v t) bs cs = flat_done (value v) (flat bs cs t)
-  outcome (Stopped e t) bs cs = flat_stopped e t
+  outcome o bs cs = ended o.answer o.steps bs cs

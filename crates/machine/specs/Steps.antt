@@ -1,5 +1,5 @@
 -- What one step of the machine does.
-use Rattle.std.specs.Prelude.{ℕ, suc, Bool, true, false, cond, List, [], ◌∷◌, ◌++◌, length, Some, None, Option, nat_lt, slice_set}
+use Rattle.std.specs.Prelude.{ℕ, suc, Bool, true, false, cond, List, [], ◌∷◌, ◌++◌, length, Some, None, Option, Result, Ok, Err, nat_lt, slice_set}
 use Rattle.std.specs.List.{slice_get}
 use Rattle.number.specs.NumberKind.{NumberKind}
 use Rattle.number.specs.Millimetre.{clamp}
@@ -12,24 +12,22 @@ use Rattle.machine.specs.declared.values.Cell.{Cell}
 use Rattle.machine.specs.declared.values.Frame.{Frame}
 use Rattle.machine.specs.declared.values.Stage.{Stage}
 use Rattle.machine.specs.declared.values.Stage.TheVariants.{Chooses, Creates, Reads, Calls, Applies, Targets, Writes, Operates, Combines, Passes}
-use Rattle.machine.specs.declared.values.Next.{Next}
-use Rattle.machine.specs.declared.values.Next.TheVariants.{Start, Return, Halt}
 use Rattle.evaluation.specs.declared.ending.Stop.{Stop}
 use Rattle.evaluation.specs.declared.ending.Stop.TheVariants.{FuelSpent, PendingFull, BindingsFull, CellsFull, Stuck}
 use Rattle.sheet.specs.Sheet.{Sheet, last_part, part}
 use Rattle.evaluation.specs.Evaluation.{operation}
 use Rattle.machine.specs.Flat.{Limits, seek}
-use Rattle.machine.specs.Seen.{Machine}
+use Rattle.machine.specs.Seen.{Machine, Turn, Start, Return, Halt}
 
--- why a node cannot be started, where all fuel is spent and where no place is left
-abbrev pub start_refused : (spent full : Bool) → Option Stop
-start_refused true full = Some FuelSpent
-start_refused false true = Some PendingFull
-start_refused false false = None
+-- whether a node can be started, where all fuel is spent and where no place is left
+abbrev pub admitted : (spent full : Bool) → Result (Unit {0}) Stop
+admitted true full = Err FuelSpent
+admitted false true = Err PendingFull
+admitted false false = Ok tt
 
 module _ {V : Type 0} where
   -- the machine with these parts
-  abbrev pub at : Next V → List (Frame V) → List (Binding V) → List (Cell V) → Machine V
+  abbrev pub at : Turn V → List (Frame V) → List (Binding V) → List (Cell V) → Machine V
   at n fs bs cs = record { next = n; frames = fs; made = bs; cells = cs }
 
   -- node i pending in the environment at place k

@@ -1,9 +1,11 @@
 //! The evaluation of a node as a loop over three bounded stacks: pending nodes, bindings and cells.
 #![tactic(auto)]
 
+pub mod areas;
 pub mod runs;
 pub mod steps;
 pub mod values;
 
+pub use areas::WorkAreas;
 pub use runs::run;
 pub use values::{Binding, Cell, Frame, Next, Outcome, Stage, Value};

@@ -3,41 +3,42 @@ ghost use Rattle.std.specs.Prelude.{◌≡◌, []};
 ghost use Rattle.stack.specs.Live.{live, room};
 ghost use Rattle.sheet.specs.Sheet.{view};
 ghost use Rattle.machine.specs.Does.{Evaluated};
-ghost use Rattle.machine.specs.Steps.{start_refused};
+ghost use Rattle.machine.specs.Steps.{admitted};
 
 use super::steps::{resume, start};
-use super::values::{Binding, Cell, Frame, Next, Outcome};
+use super::values::{Binding, Cell, Frame, Next, Outcome, Value};
 use evaluation::Stop;
 use number::Number;
 use sheet::Table;
 use stack::BoundedStack;
 
-// Why a node cannot be started: fuel is tested first, then the places for pending nodes.
-fn start_refused(spent: bool, full: bool) -> Option<Stop>
-    ensures { result ≡ start_refused spent full }
+// Whether a node can be started: fuel is tested first, then the places for pending nodes.
+fn admit(spent: bool, full: bool) -> Result<(), Stop>
+    ensures { result ≡ admitted spent full }
 {
     if spent {
-        return Some(Stop::FuelSpent);
+        return Err(Stop::FuelSpent);
     }
     if full {
-        return Some(Stop::PendingFull);
+        return Err(Stop::PendingFull);
     }
-    None
+    Ok(())
 }
 
-// Steps until the root has a value, or the run stops.
-fn cycle<K: Number>(
+// Steps until the root has a value, or the run stops, and counts the steps.
+fn value_of<K: Number>(
     table: &Table,
     frames: &mut BoundedStack<Frame<K>>,
     bindings: &mut BoundedStack<Binding<K>>,
     cells: &mut BoundedStack<Cell<K>>,
     root: usize,
     fuel: usize,
-) -> Outcome<K>
-    requires { live frames.old ≡ [] }
-    ensures { Evaluated K.Number.kind K.Number.value (view table.now.rows.now) (record { bindings = room bindings.entry.now; cells = room cells.old }) fuel (room frames.old) root (live bindings.entry.now) (live cells.old) result (live bindings.exit.now) (live cells.new) }
+    steps: &mut usize,
+) -> Result<Value<K>, Stop>
+    requires empty { live frames.old ≡ [] }
+    requires fresh { steps.old ≡ 0 }
+    ensures { Evaluated K.Number.kind K.Number.value (view table.now.rows.now) (record { bindings = room bindings.entry.now; cells = room cells.old }) fuel (room frames.old) root (live bindings.entry.now) (live cells.old) (record { answer = result; steps = steps.new }) (live bindings.exit.now) (live cells.new) }
 {
-    let mut steps: usize = 0;
     let mut next: Next<K> = Next::Start {
         node: root,
         scope: 0,
@@ -45,17 +46,14 @@ fn cycle<K: Number>(
     loop {
         next = match next {
             Next::Start { node, scope } => {
-                if let Some(stop) = start_refused(steps == fuel, frames.is_full()) {
-                    return Outcome::Stopped { stop, steps };
-                }
-                steps += 1;
-                start(table, frames, bindings, node, scope)
+                admit(*steps == fuel, frames.is_full())?;
+                *steps += 1;
+                start(table, frames, bindings, node, scope)?
             }
             Next::Return(value) => match frames.pop() {
-                Some(frame) => resume(table, frames, bindings, cells, frame, value),
-                None => return Outcome::Done { value, steps },
+                Some(frame) => resume(table, frames, bindings, cells, frame, value)?,
+                None => return Ok(value),
             },
-            Next::Halt(stop) => return Outcome::Stopped { stop, steps },
         };
     }
 }
@@ -73,5 +71,7 @@ pub fn run<K: Number>(
     requires { live frames.old ≡ [] }
     ensures { Evaluated K.Number.kind K.Number.value (view table.now.rows.now) (record { bindings = room bindings.entry.now; cells = room cells.old }) fuel (room frames.old) root (live bindings.entry.now) (live cells.old) result (live bindings.exit.now) (live cells.new) }
 {
-    cycle(table, frames, bindings, cells, root, fuel)
+    let mut steps = 0;
+    let answer = value_of(table, frames, bindings, cells, root, fuel, &mut steps);
+    Outcome { answer, steps }
 }

@@ -1,30 +1,26 @@
 // One step of the machine: a node is started, or a value comes back to the node that waits for it.
-ghost use Rattle.std.specs.Prelude.{◌≡◌, ℕ, ◌<◌, List, [], ◌∷◌, ◌++◌, length, if◌then◌else◌};
-ghost use Rattle.stack.specs.Live.{live, room};
+// The stacks are passed one by one and not as one struct: what a function is not given, it need not say
+// that it leaves alone.
+ghost use Rattle.std.specs.Prelude.{◌≡◌, ℕ, List, [], ◌∷◌, ◌++◌, if◌then◌else◌};
+ghost use Rattle.stack.specs.Live.{live, room, SameArea};
 ghost use Rattle.number.specs.Millimetre.{clamp};
 ghost use Rattle.sheet.specs.Sheet.{view, last_part, part};
-ghost use Rattle.evaluation.specs.Evaluation.{operation};
+ghost use Rattle.evaluation.specs.Evaluation.{operate_as};
 ghost use Rattle.machine.specs.Flat.{seek};
 ghost use Rattle.machine.specs.Seen.{found, bindings as bound};
-ghost use Rattle.machine.specs.Does.{Chosen, Created, ReadOut, Written, Applied, Combined, Started, Resumed};
+ghost use Rattle.machine.specs.Does.{HasPlace, Chosen, Created, ReadOut, Written, Applied, Combined, Started, Resumed};
 
 use super::values::{Binding, Cell, Frame, Next, Stage, Value};
 use evaluation::Stop;
 use number::Number;
-use sheet::{Kind, Table};
+use sheet::{Kind, Operator, Table};
 use stack::BoundedStack;
 
 // The whole number of 32 bits that is nearest to a literal.
 fn whole_of(literal: i64) -> i32
     ensures { result ≡ clamp literal }
 {
-    if literal > 2147483647 {
-        return 2147483647;
-    }
-    if literal < -2147483648 {
-        return -2147483648;
-    }
-    literal as i32
+    literal.clamp(i32::MIN as i64, i32::MAX as i64) as i32
 }
 
 // The last part of node i.
@@ -56,8 +52,8 @@ fn pend<K: Number>(
     stage: Stage<K>,
     part: usize,
 ) -> Next<K>
-    requires { length (live frames.old) < room frames.old }
-    ensures places { room frames.new ≡ room frames.old }
+    requires { HasPlace frames.old }
+    ensures area { SameArea frames.old frames.new }
     ensures next { result ≡ Next.Start part scope }
     ensures held { live frames.new ≡ live frames.old ++ record { node = node; scope = scope; stage = stage } ∷ [] }
 {
@@ -74,19 +70,16 @@ fn look_up<K: Number>(
     ensures { found K.Number.value result ≡ seek scope (bound K.Number.value (live bindings.now)) function scope }
 {
     let mut place = scope;
-    let mut left = scope;
-    while left > 0 {
+    for _ in 0..scope {
+        // `checked_sub(1)?` misses the speed that this test meets.
         if place == 0 {
             return None;
         }
-        let Some(b) = bindings.get(place - 1) else {
-            return None;
-        };
-        if b.function == function {
-            return Some(b.value);
+        let binding = bindings.get(place - 1)?;
+        if binding.function == function {
+            return Some(binding.value);
         }
-        place = b.outer;
-        left -= 1;
+        place = binding.outer;
     }
     None
 }
@@ -109,19 +102,13 @@ fn choose<K: Number>(
     node: usize,
     scope: usize,
     value: Value<K>,
-) -> Next<K>
-    requires { length (live frames.old) < room frames.old }
-    ensures places { room frames.new ≡ room frames.old }
+) -> Result<Next<K>, Stop>
+    requires { HasPlace frames.old }
+    ensures area { SameArea frames.old frames.new }
     ensures step { Chosen K.Number.kind K.Number.value (view table.now.rows.now) node scope value (live frames.old) result (live frames.new) }
 {
-    match value {
-        Value::Number(n) => {
-            let part = branch(table, node, n);
-            pend(frames, node, scope, Stage::Passes, part)
-        }
-        Value::Closure { node: _, scope: _ } => Next::Halt(Stop::Stuck { node }),
-        Value::Reference(_) => Next::Halt(Stop::Stuck { node }),
-    }
+    let part = branch(table, node, value.number_for(node)?);
+    Ok(pend(frames, node, scope, Stage::Passes, part))
 }
 
 // A new cell holds the value; its address is the value of the node.
@@ -130,31 +117,29 @@ fn create<K: Number>(
     cells: &mut BoundedStack<Cell<K>>,
     node: usize,
     value: Value<K>,
-) -> Next<K>
-    ensures places { room cells.new ≡ room cells.old }
+) -> Result<Next<K>, Stop>
+    ensures area { SameArea cells.old cells.new }
     ensures step { Created K.Number.kind K.Number.value (view table.now.rows.now) (room cells.old) node value (live cells.old) result (live cells.new) }
 {
     let address = cells.len();
     let site = table.node_at(node).argument;
-    if cells.push(Cell { site, value }) {
-        Next::Return(Value::Reference(address))
-    } else {
-        Next::Halt(Stop::CellsFull)
+    if !cells.push(Cell { site, value }) {
+        return Err(Stop::CellsFull);
     }
+    Ok(Next::Return(Value::Reference(address)))
 }
 
 // Reads through a reference.
-fn read<K: Number>(cells: &BoundedStack<Cell<K>>, node: usize, value: Value<K>) -> Next<K>
+fn read<K: Number>(
+    cells: &BoundedStack<Cell<K>>,
+    node: usize,
+    value: Value<K>,
+) -> Result<Next<K>, Stop>
     ensures { ReadOut K.Number.kind K.Number.value node value (live cells.now) result }
 {
-    match value {
-        Value::Number(_) => Next::Halt(Stop::Stuck { node }),
-        Value::Closure { node: _, scope: _ } => Next::Halt(Stop::Stuck { node }),
-        Value::Reference(address) => match cells.get(address) {
-            Some(cell) => Next::Return(cell.value),
-            None => Next::Halt(Stop::Stuck { node }),
-        },
-    }
+    let address = value.address_for(node)?;
+    let cell = cells.get(address).ok_or(Stop::Stuck { node })?;
+    Ok(Next::Return(cell.value))
 }
 
 // Writes through a reference; the value written is the value of the node.
@@ -163,22 +148,14 @@ fn write<K: Number>(
     node: usize,
     target: Value<K>,
     value: Value<K>,
-) -> Next<K>
-    ensures places { room cells.new ≡ room cells.old }
+) -> Result<Next<K>, Stop>
+    ensures area { SameArea cells.old cells.new }
     ensures step { Written K.Number.kind K.Number.value node target value (live cells.old) result (live cells.new) }
 {
-    match target {
-        Value::Number(_) => Next::Halt(Stop::Stuck { node }),
-        Value::Closure { node: _, scope: _ } => Next::Halt(Stop::Stuck { node }),
-        Value::Reference(address) => match cells.get(address) {
-            Some(cell) => {
-                let site = cell.site;
-                let _ = cells.set(address, Cell { site, value });
-                Next::Return(value) // the value written
-            }
-            None => Next::Halt(Stop::Stuck { node }),
-        },
-    }
+    let address = target.address_for(node)?;
+    let cell = cells.get(address).ok_or(Stop::Stuck { node })?;
+    let _ = cells.set(address, Cell { value, ..cell });
+    Ok(Next::Return(value)) // the value written
 }
 
 // The body of the function comes next, with its argument bound.
@@ -188,63 +165,57 @@ fn apply<K: Number>(
     node: usize,
     callee: Value<K>,
     value: Value<K>,
-) -> Next<K>
-    requires { length (live frames.old) < room frames.old }
-    ensures frames_places { room frames.new ≡ room frames.old }
-    ensures bindings_places { room bindings.new ≡ room bindings.old }
+) -> Result<Next<K>, Stop>
+    requires { HasPlace frames.old }
+    ensures frames_area { SameArea frames.old frames.new }
+    ensures bindings_area { SameArea bindings.old bindings.new }
     ensures step { Applied K.Number.kind K.Number.value (room bindings.old) node callee value (live frames.old) (live bindings.old) result (live frames.new) (live bindings.new) }
 {
-    match callee {
-        Value::Number(_) => Next::Halt(Stop::Stuck { node }),
-        Value::Closure {
-            node: function,
-            scope: outer,
-        } => {
-            if bindings.push(Binding {
-                function,
-                value,
-                outer,
-            }) {
-                let scope = bindings.len();
-                pend(frames, node, scope, Stage::Passes, last_of(function))
-            } else {
-                Next::Halt(Stop::BindingsFull)
-            }
-        }
-        Value::Reference(_) => Next::Halt(Stop::Stuck { node }),
+    let Value::Closure {
+        node: function,
+        scope: outer,
+    } = callee
+    else {
+        return Err(Stop::Stuck { node });
+    };
+    if !bindings.push(Binding {
+        function,
+        value,
+        outer,
+    }) {
+        return Err(Stop::BindingsFull);
     }
+    let scope = bindings.len();
+    Ok(pend(frames, node, scope, Stage::Passes, last_of(function)))
 }
 
-// The operation that the argument names.
-fn operate<K: Number>(argument: usize, a: K, b: K) -> K
-    ensures { K.Number.value result ≡ operation K.Number.kind argument (K.Number.value a) (K.Number.value b) }
+// What the operator makes of two numbers.
+fn operate<K: Number>(operator: Operator, a: K, b: K) -> K
+    ensures { K.Number.value result ≡ operate_as K.Number.kind operator (K.Number.value a) (K.Number.value b) }
 {
-    match argument {
-        0 => a.add(b),
-        1 => a.subtract(b),
-        2 => a.multiply(b),
-        3 => a.divide(b),
-        4 => a.less(b),
-        _ => a.equal(b),
+    match operator {
+        Operator::Add => a.add(b),
+        Operator::Subtract => a.subtract(b),
+        Operator::Multiply => a.multiply(b),
+        Operator::Divide => a.divide(b),
+        Operator::Less => a.less(b),
+        Operator::Equal => a.equal(b),
     }
 }
 
 // Both parts of an operation are known.
-fn combine<K: Number>(table: &Table, node: usize, left: Value<K>, right: Value<K>) -> Next<K>
+fn combine<K: Number>(
+    table: &Table,
+    node: usize,
+    left: Value<K>,
+    right: Value<K>,
+) -> Result<Next<K>, Stop>
     ensures { Combined K.Number.kind K.Number.value (view table.now.rows.now) node left right result }
 {
-    match left {
-        Value::Number(a) => match right {
-            Value::Number(b) => {
-                let argument = table.node_at(node).argument;
-                Next::Return(Value::Number(operate(argument, a, b)))
-            }
-            Value::Closure { node: _, scope: _ } => Next::Halt(Stop::Stuck { node }),
-            Value::Reference(_) => Next::Halt(Stop::Stuck { node }),
-        },
-        Value::Closure { node: _, scope: _ } => Next::Halt(Stop::Stuck { node }),
-        Value::Reference(_) => Next::Halt(Stop::Stuck { node }),
-    }
+    let a = left.number_for(node)?;
+    let b = right.number_for(node)?;
+    let operator = Operator::from(table.node_at(node).argument);
+    Ok(Next::Return(Value::Number(operate(operator, a, b))))
 }
 
 // A node is started.
@@ -254,27 +225,27 @@ pub fn start<K: Number>(
     bindings: &BoundedStack<Binding<K>>,
     node: usize,
     scope: usize,
-) -> Next<K>
-    requires { length (live frames.old) < room frames.old }
-    ensures places { room frames.new ≡ room frames.old }
+) -> Result<Next<K>, Stop>
+    requires { HasPlace frames.old }
+    ensures area { SameArea frames.old frames.new }
     ensures step { Started K.Number.kind K.Number.value (view table.now.rows.now) node scope (live frames.old) (live bindings.now) result (live frames.new) }
 {
     let row = table.node_at(node);
     match row.kind {
-        Kind::Literal => Next::Return(Value::Number(K::from_whole(whole_of(row.literal)))),
-        Kind::Variable => match look_up(bindings, row.argument, scope) {
-            Some(value) => Next::Return(value),
-            None => Next::Halt(Stop::Stuck { node }),
-        },
-        Kind::Lambda => Next::Return(Value::Closure { node, scope }),
-        Kind::Application => pend(frames, node, scope, Stage::Calls, middle_of(table, node)),
-        Kind::New => pend(frames, node, scope, Stage::Creates, last_of(node)),
-        Kind::Channel => Next::Return(Value::Reference(row.argument)),
-        Kind::Read => pend(frames, node, scope, Stage::Reads, last_of(node)),
-        Kind::Write => pend(frames, node, scope, Stage::Targets, middle_of(table, node)),
-        Kind::Choice => pend(frames, node, scope, Stage::Chooses, first_of(table, node)),
-        Kind::Operation => pend(frames, node, scope, Stage::Operates, middle_of(table, node)),
-        Kind::Unknown => Next::Halt(Stop::Stuck { node }),
+        Kind::Literal => Ok(Next::Return(Value::Number(K::from_whole(whole_of(row.literal))))),
+        Kind::Variable => {
+            let value = look_up(bindings, row.argument, scope).ok_or(Stop::Stuck { node })?;
+            Ok(Next::Return(value))
+        }
+        Kind::Lambda => Ok(Next::Return(Value::Closure { node, scope })),
+        Kind::Application => Ok(pend(frames, node, scope, Stage::Calls, middle_of(table, node))),
+        Kind::New => Ok(pend(frames, node, scope, Stage::Creates, last_of(node))),
+        Kind::Channel => Ok(Next::Return(Value::Reference(row.argument))),
+        Kind::Read => Ok(pend(frames, node, scope, Stage::Reads, last_of(node))),
+        Kind::Write => Ok(pend(frames, node, scope, Stage::Targets, middle_of(table, node))),
+        Kind::Choice => Ok(pend(frames, node, scope, Stage::Chooses, first_of(table, node))),
+        Kind::Operation => Ok(pend(frames, node, scope, Stage::Operates, middle_of(table, node))),
+        Kind::Unknown => Err(Stop::Stuck { node }),
     }
 }
 
@@ -286,11 +257,11 @@ pub fn resume<K: Number>(
     cells: &mut BoundedStack<Cell<K>>,
     frame: Frame<K>,
     value: Value<K>,
-) -> Next<K>
-    requires { length (live frames.old) < room frames.old }
-    ensures frames_places { room frames.new ≡ room frames.old }
-    ensures bindings_places { room bindings.new ≡ room bindings.old }
-    ensures cells_places { room cells.new ≡ room cells.old }
+) -> Result<Next<K>, Stop>
+    requires { HasPlace frames.old }
+    ensures frames_area { SameArea frames.old frames.new }
+    ensures bindings_area { SameArea bindings.old bindings.new }
+    ensures cells_area { SameArea cells.old cells.new }
     ensures step { Resumed K.Number.kind K.Number.value (view table.now.rows.now) (record { bindings = room bindings.entry.now; cells = room cells.old }) frame value (live frames.old) (live bindings.entry.now) (live cells.old) result (live frames.new) (live bindings.exit.now) (live cells.new) }
 {
     let Frame { node, scope, stage } = frame;
@@ -298,12 +269,12 @@ pub fn resume<K: Number>(
         Stage::Chooses => choose(table, frames, node, scope, value),
         Stage::Creates => create(table, cells, node, value),
         Stage::Reads => read(cells, node, value),
-        Stage::Calls => pend(frames, node, scope, Stage::Applies(value), last_of(node)),
+        Stage::Calls => Ok(pend(frames, node, scope, Stage::Applies(value), last_of(node))),
         Stage::Applies(callee) => apply(frames, bindings, node, callee, value),
-        Stage::Targets => pend(frames, node, scope, Stage::Writes(value), last_of(node)),
+        Stage::Targets => Ok(pend(frames, node, scope, Stage::Writes(value), last_of(node))),
         Stage::Writes(target) => write(cells, node, target, value),
-        Stage::Operates => pend(frames, node, scope, Stage::Combines(value), last_of(node)),
+        Stage::Operates => Ok(pend(frames, node, scope, Stage::Combines(value), last_of(node))),
         Stage::Combines(left) => combine(table, node, left, value),
-        Stage::Passes => Next::Return(value),
+        Stage::Passes => Ok(Next::Return(value)),
     }
 }

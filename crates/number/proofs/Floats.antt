@@ -1,9 +1,10 @@
 -- What the code's float comparisons and literals are, by the definitions of the metre kind.
-use Rattle.std.proofs.Common.{◌≡◌, ℕ, zero, suc, ◌*◌, ◌<◌, Bool, true, false, eqb, refl, zero-mul, mul-one, arith}
-use lib.Ieee.{Float, nan, inf, fin, binary64, eq, of_bits, level, up}
+use Rattle.std.proofs.Common.{◌≡◌, ℕ, zero, suc, ◌*◌, ◌<◌, Bool, true, false, eqb, pos, refl, zero-mul, mul-one, arith}
+use lib.Ieee.{Float, nan, inf, fin, binary64, eq, of_bits, of_int, level, up}
 use lib.Ieee.Fits.{up_pos}
 use Rattle.std.proofs.lemmas.Nat.{mul-lt}
 use Rattle.std.proofs.lemmas.Bool.Decides.{nat_tests}
+use Rattle.std.specs.Int.{from_bool}
 use Rattle.number.specs.Metre.{zero_float, float_if}
 
 -- a magnitude equals that of +0 exactly where its significand is 0, whatever its sign
@@ -21,13 +22,8 @@ equals_zero_lem nan = refl
 equals_zero_lem (inf s) = refl
 equals_zero_lem (fin s m e) = level_zero s m (up e) _ (up_pos e)
 
--- the literals 1.0 and 0.0 are the answers of a comparison
-pub literal_one : (b : Bool) → b ≡ true → of_bits binary64 4607182418800017408 ≡ float_if b
-unfolding of_bits
-literal_one true e = refl
-literal_one false e = cc
-
-pub literal_zero : (b : Bool) → b ≡ false → of_bits binary64 0 ≡ float_if b
-unfolding of_bits
-literal_zero false e = refl
-literal_zero true e = cc
+-- a comparison's answer, made a float, is 1 or 0
+pub whole_of_bool : (b : Bool) → of_int binary64 (pos (from_bool b)) ≡ float_if b
+unfolding of_int
+whole_of_bool true = refl
+whole_of_bool false = refl

@@ -3,3 +3,4 @@ pub mod Millimetre
 pub mod Metre
 pub mod MillimetreLaws
 pub mod MetreLaws
+pub mod Words

@@ -15,6 +15,7 @@ pub use metres::Metres;
 pub use millimetres::Millimetres;
 
 /// A number of some kind. No function refuses.
+// These are methods and not `From<i32>`, `Add` and so on: a bound on each of those needs a law beside it to state its answer by `kind`.
 pub trait Number: Copy {
     ghost kind: { NumberKind };
 

@@ -1,10 +1,13 @@
 //! Metres, as binary64 numbers of IEEE 754: each operation is the exact result, rounded once.
 ghost use Rattle.std.specs.Prelude.{◌≡◌};
-ghost use Rattle.number.specs.Metre.{metre_kind, zero_float, float_if};
+ghost use Rattle.number.specs.Metre.{metre_kind};
 
 use crate::Number;
+use std::fmt;
+use std::num::ParseFloatError;
+use std::str::FromStr;
 
-#[derive(Clone, Copy)]
+#[derive(Clone, Copy, Debug, PartialEq)]
 pub struct Metres {
     pub length: f64,
 }
@@ -15,11 +18,14 @@ impl Number for Metres {
     ghost value = { λ m. m.length };
 
     fn from_whole(n: i32) -> Metres {
-        Metres { length: n as f64 }
+        Metres {
+            length: f64::from(n),
+        }
     }
 
+    #[tactic(auto, using(crate::proofs::Floats::equals_zero_lem))]
     fn is_zero(self) -> bool {
-        equals_zero(self.length)
+        self.length == 0.0
     }
 
     fn add(self, other: Metres) -> Metres {
@@ -46,29 +52,37 @@ impl Number for Metres {
         }
     }
 
+    #[tactic(auto, using(crate::proofs::Floats::whole_of_bool))]
     fn less(self, other: Metres) -> Metres {
         Metres {
-            length: one_if(self.length < other.length),
+            length: f64::from(self.length < other.length),
         }
     }
 
+    #[tactic(auto, using(crate::proofs::Floats::whole_of_bool))]
     fn equal(self, other: Metres) -> Metres {
         Metres {
-            length: one_if(self.length == other.length),
+            length: f64::from(self.length == other.length),
         }
     }
 }
 
-// True at 0 and -0, and at nothing else.
-fn equals_zero(x: f64) -> bool
-    ensures { result ≡ zero_float x }
-{
-    x == 0.0
+/// The length in decimal digits, as `f64` writes it. No clause states the text, since `f64`'s states none.
+impl fmt::Display for Metres {
+    fn fmt<W: fmt::Write>(&self, f: &mut fmt::Formatter<W>) -> fmt::Result {
+        self.length.fmt(f)
+    }
 }
 
-// The answer of a comparison, as a number.
-fn one_if(answer: bool) -> f64
-    ensures { result ≡ float_if answer }
-{
-    if answer { 1.0 } else { 0.0 }
+/// Reads a length as `f64` does.
+impl FromStr for Metres {
+    type Err = ParseFloatError;
+
+    ghost use Rattle.number.specs.Words.{ParsesMetres};
+
+    ghost from_str_gives = { ParsesMetres };
+
+    fn from_str(word: &str) -> Result<Metres, ParseFloatError> {
+        word.parse::<f64>().map(|length| Metres { length })
+    }
 }

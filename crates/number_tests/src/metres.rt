@@ -1,15 +1,13 @@
 use number::{Metres, Number};
+use std::test::Fail;
 
-const INFINITE: f64 = 1.0 / 0.0;
+const INFINITE: f64 = f64::INFINITY;
 
-const NAN: f64 = 0.0 / 0.0;
+const NAN: f64 = f64::NAN;
 
 // The same value: not-a-number is one value, and 0 is not -0.
 fn same(a: f64, b: f64) -> bool {
-    if a != a || b != b {
-        return a != a && b != b;
-    }
-    a == b && 1.0 / a == 1.0 / b
+    (a.is_nan() && b.is_nan()) || (a == b && 1.0 / a == 1.0 / b)
 }
 
 fn metres(length: f64) -> Metres {
@@ -108,4 +106,25 @@ fn whole_numbers_and_zero(rt: HostRuntime) {
     ] {
         assert_eq!(rt; metres(length).is_zero(), zero);
     }
+}
+
+#[test]
+fn words(rt: HostRuntime) -> Result<(), Fail> {
+    for (word, length) in [
+        ("0", 0.0),
+        ("-0", -0.0),
+        ("0.1", 0.1),
+        ("-7", -7.0),
+        ("0.30000000000000004", 0.30000000000000004),
+        ("inf", INFINITE),
+        ("NaN", NAN),
+    ] {
+        let number: Metres = word.parse()?;
+        assert!(rt; same(number.length, length));
+        assert_eq!(rt; number.to_string(rt.alloc())?.as_str(), word);
+    }
+    for word in ["", "-", "1,5", "m"] {
+        assert!(rt; word.parse::<Metres>().is_err());
+    }
+    Ok(())
 }

@@ -1,38 +1,12 @@
 use number::{Millimetres, Number};
-use std::process::Abort;
+use std::test::Fail;
 
-const LEAST: i32 = -2147483648;
+const LEAST: i32 = i32::MIN;
 
-const GREATEST: i32 = 2147483647;
+const GREATEST: i32 = i32::MAX;
 
-#[derive(Clone, Copy)]
-enum Operation {
-    Add,
-    Subtract,
-    Multiply,
-    Divide,
-    Less,
-    Equal,
-}
-
-fn operate(operation: Operation, a: Millimetres, b: Millimetres) -> Millimetres {
-    match operation {
-        Operation::Add => a.add(b),
-        Operation::Subtract => a.subtract(b),
-        Operation::Multiply => a.multiply(b),
-        Operation::Divide => a.divide(b),
-        Operation::Less => a.less(b),
-        Operation::Equal => a.equal(b),
-    }
-}
-
-fn check_row(rt: &impl Abort, operation: Operation, a: i32, b: i32, expected: i32) {
-    let result = operate(
-        operation,
-        Millimetres { count: a },
-        Millimetres { count: b },
-    );
-    assert_eq!(rt; result.count, expected);
+fn millimetres(count: i32) -> Millimetres {
+    Millimetres { count }
 }
 
 #[test]
@@ -48,8 +22,9 @@ fn sums_and_differences(rt: HostRuntime) {
         (LEAST, LEAST, LEAST, 0),
         (GREATEST, LEAST, -1, GREATEST),
     ] {
-        check_row(&rt, Operation::Add, a, b, sum);
-        check_row(&rt, Operation::Subtract, a, b, difference);
+        let (a, b) = (millimetres(a), millimetres(b));
+        assert_eq!(rt; a.add(b), millimetres(sum));
+        assert_eq!(rt; a.subtract(b), millimetres(difference));
     }
 }
 
@@ -75,8 +50,9 @@ fn products_and_quotients(rt: HostRuntime) {
         (46341, 46341, GREATEST, 1),
         (46340, 46340, 2147395600, 1),
     ] {
-        check_row(&rt, Operation::Multiply, a, b, product);
-        check_row(&rt, Operation::Divide, a, b, quotient);
+        let (a, b) = (millimetres(a), millimetres(b));
+        assert_eq!(rt; a.multiply(b), millimetres(product));
+        assert_eq!(rt; a.divide(b), millimetres(quotient));
     }
 }
 
@@ -92,8 +68,9 @@ fn comparisons(rt: HostRuntime) {
         (GREATEST, LEAST, 0, 0),
         (LEAST, LEAST, 0, 1),
     ] {
-        check_row(&rt, Operation::Less, a, b, less);
-        check_row(&rt, Operation::Equal, a, b, equal);
+        let (a, b) = (millimetres(a), millimetres(b));
+        assert_eq!(rt; a.less(b), millimetres(less));
+        assert_eq!(rt; a.equal(b), millimetres(equal));
     }
 }
 
@@ -110,4 +87,22 @@ fn whole_numbers_and_zero(rt: HostRuntime) {
         assert_eq!(rt; number.count, n);
         assert_eq!(rt; number.is_zero(), zero);
     }
+}
+
+#[test]
+fn words(rt: HostRuntime) -> Result<(), Fail> {
+    for (word, count) in [
+        ("0", 0),
+        ("-7", -7),
+        ("2147483647", GREATEST),
+        ("-2147483648", LEAST),
+    ] {
+        let number: Millimetres = word.parse()?;
+        assert_eq!(rt; number, millimetres(count));
+        assert_eq!(rt; number.to_string(rt.alloc())?.as_str(), word);
+    }
+    for word in ["", "1.5", "2147483648", "-", "mm"] {
+        assert!(rt; word.parse::<Millimetres>().is_err());
+    }
+    Ok(())
 }

@@ -1,107 +1,67 @@
 use stack::BoundedStack;
-use std::process::Abort;
-use std::test::Fail;
 
-// A call, and what it must answer.
-#[derive(Clone, Copy)]
-enum Call {
-    Push(u8, bool),
-    Pop(Option<u8>),
-    Get(usize, Option<u8>),
-    Set(usize, u8, bool),
-}
-
-fn perform(rt: &impl Abort, stack: &mut BoundedStack<u8>, call: Call) -> Result<(), Fail> {
-    match call {
-        Call::Push(x, answer) => {
-            assert_eq!(rt; stack.push(x), answer);
-            Ok(())
-        },
-        Call::Pop(answer) => {
-            assert_eq!(rt; stack.pop(), answer);
-            Ok(())
-        },
-        Call::Get(i, answer) => {
-            assert_eq!(rt; stack.get(i), answer);
-            Ok(())
-        },
-        Call::Set(i, x, answer) => {
-            assert_eq!(rt; stack.set(i, x), answer);
-            Ok(())
-        },
+#[test]
+fn last_in_is_first_out(rt: HostRuntime) {
+    let mut places = [0; 3];
+    let mut stack = BoundedStack::new(&mut places);
+    assert_eq!(rt; stack.pop(), None);
+    for (x, room) in [(7, true), (8, true), (9, true), (10, false)] {
+        assert_eq!(rt; stack.push(x), room);
     }
-}
-
-fn perform_all(
-    rt: &impl Abort,
-    places: &mut [u8],
-    calls: &[Call],
-    len: usize,
-    full: bool,
-) -> Result<(), Fail> {
-    let mut stack = BoundedStack::new(places);
-    for call in calls {
-        perform(rt, &mut stack, *call)?;
+    assert_eq!(rt; stack.pop(), Some(9));
+    assert_eq!(rt; stack.pop(), Some(8));
+    assert!(rt; stack.push(11));
+    for top in [Some(11), Some(7), None, None] {
+        assert_eq!(rt; stack.pop(), top);
     }
-    assert_eq!(rt; stack.len(), len);
-    assert_eq!(rt; stack.is_full(), full);
-    Ok(())
+    assert_eq!(rt; stack.len(), 0);
+    assert!(rt; !stack.is_full());
 }
 
 #[test]
-fn last_in_is_first_out(rt: HostRuntime) -> Result<(), Fail> {
-    let calls = [
-        Call::Pop(None),
-        Call::Push(7, true),
-        Call::Push(8, true),
-        Call::Push(9, true),
-        Call::Push(10, false),
-        Call::Pop(Some(9)),
-        Call::Pop(Some(8)),
-        Call::Push(11, true),
-        Call::Pop(Some(11)),
-        Call::Pop(Some(7)),
-        Call::Pop(None),
-        Call::Pop(None),
-    ];
-    perform_all(&rt, &mut [0; 3], &calls, 0, false)
+fn places_count_from_the_bottom(rt: HostRuntime) {
+    let mut places = [1, 2, 3, 4];
+    let mut stack = BoundedStack::new(&mut places);
+    assert_eq!(rt; stack.get(0), None);
+    assert!(rt; !stack.set(0, 5));
+    assert!(rt; stack.push(10));
+    assert!(rt; stack.push(20));
+    for (i, element) in [(0, Some(10)), (1, Some(20)), (2, None), (4, None)] {
+        assert_eq!(rt; stack.get(i), element);
+    }
+    assert_eq!(rt; stack.elements(), [10, 20].as_slice());
+    assert!(rt; stack.set(0, 11));
+    assert!(rt; !stack.set(2, 30));
+    assert_eq!(rt; stack.pop(), Some(20));
+    assert_eq!(rt; stack.get(0), Some(11));
+    assert_eq!(rt; stack.get(1), None);
+    assert_eq!(rt; stack.len(), 1);
+    assert!(rt; !stack.is_full());
 }
 
 #[test]
-fn places_count_from_the_bottom(rt: HostRuntime) -> Result<(), Fail> {
-    let calls = [
-        Call::Get(0, None),
-        Call::Set(0, 5, false),
-        Call::Push(10, true),
-        Call::Push(20, true),
-        Call::Get(0, Some(10)),
-        Call::Get(1, Some(20)),
-        Call::Get(2, None),
-        Call::Get(4, None),
-        Call::Set(0, 11, true),
-        Call::Set(2, 30, false),
-        Call::Pop(Some(20)),
-        Call::Get(0, Some(11)),
-        Call::Get(1, None),
-    ];
-    perform_all(&rt, &mut [1, 2, 3, 4], &calls, 1, false)
+fn an_empty_slice_has_no_room(rt: HostRuntime) {
+    let mut places: [u8; 0] = [];
+    let mut stack = BoundedStack::new(&mut places);
+    assert!(rt; !stack.push(1));
+    assert_eq!(rt; stack.pop(), None);
+    assert_eq!(rt; stack.get(0), None);
+    assert_eq!(rt; stack.len(), 0);
+    assert!(rt; stack.is_full());
 }
 
 #[test]
-fn an_empty_slice_has_no_room(rt: HostRuntime) -> Result<(), Fail> {
-    let calls = [Call::Push(1, false), Call::Pop(None), Call::Get(0, None)];
-    perform_all(&rt, &mut [], &calls, 0, true)
-}
-
-#[test]
-fn the_lender_has_its_slice_again(rt: HostRuntime) -> Result<(), Fail> {
+fn the_lender_has_its_slice_again(rt: HostRuntime) {
     let mut places = [0; 2];
-    perform_all(&rt, &mut places, &[Call::Push(5, true)], 1, false)?;
-    let calls = [
-        Call::Get(0, None),
-        Call::Push(1, true),
-        Call::Push(2, true),
-        Call::Push(3, false),
-    ];
-    perform_all(&rt, &mut places, &calls, 2, true)
+    let mut first = BoundedStack::new(&mut places);
+    assert!(rt; first.push(5));
+    assert_eq!(rt; first.len(), 1);
+    assert!(rt; !first.is_full());
+    let mut second = BoundedStack::new(&mut places);
+    assert_eq!(rt; second.get(0), None);
+    for (x, room) in [(1, true), (2, true), (3, false)] {
+        assert_eq!(rt; second.push(x), room);
+    }
+    assert_eq!(rt; second.len(), 2);
+    assert!(rt; second.is_full());
 }

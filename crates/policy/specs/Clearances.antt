@@ -1,5 +1,6 @@
 -- The meaning of a clearance policy.
-use Rattle.std.specs.Prelude.{◌≡◌, ℕ, Bool, cond, ◌&&◌, ◌==◌, bit_and, nat_le, nat_lt, slice_index}
+use Rattle.std.specs.Prelude.{◌≡◌, ℕ, Bool, cond, ◌&&◌, ◌==◌, bit_and, nat_le, nat_lt, slice_index_or}
+use Rattle.policy.specs.declared.clearances.Clearance.{Clearance}
 use Rattle.policy.specs.declared.clearances.Clearances.{Clearances}
 
 -- every member of the set s is one of t
@@ -14,13 +15,17 @@ cleared n rank set a b = nat_lt a n && (nat_lt b n && (nat_le (rank a) (rank b) 
 abbrev pub clearances_size : Clearances → ℕ
 clearances_size p = p.count
 
+-- rank 0 and no compartment
+abbrev pub lowest : Clearance
+lowest = record { rank = 0; compartments = 0 }
+
 -- the rank of a label
 abbrev pub rank_of : Clearances → ℕ → ℕ
-rank_of p k = slice_index p.ranks k
+rank_of p k = (slice_index_or p.clearances k lowest).rank
 
 -- the set of compartments of a label
 abbrev pub compartments_of : Clearances → ℕ → ℕ
-compartments_of p k = slice_index p.compartments k
+compartments_of p k = (slice_index_or p.clearances k lowest).compartments
 
 -- a flows to b
 abbrev pub clearances_flows : Clearances → ℕ → ℕ → Bool

@@ -2,7 +2,7 @@
 #![tactic(auto)]
 
 ghost use Rattle.std.specs.Prelude.{◌≡◌, ℕ, ◌<◌, ◌≤◌, Bool, true, false};
-ghost use Rattle.policy.specs.Refusals.{number_of};
+ghost use Rattle.policy.specs.Refusals.{number_of, label_answer, new_answer};
 
 pub mod clearances;
 pub mod narrowed;
@@ -13,21 +13,27 @@ pub mod theorems;
 pub use clearances::Clearances;
 pub use narrowed::Narrowed;
 pub use pair_list::PairList;
+use thiserror::Error;
 
-// Why a policy was not made or not changed.
-#[derive(Clone, Copy, PartialEq, Debug)]
+/// Why a policy was not made or not changed.
+#[derive(Clone, Copy, PartialEq, Eq, Debug, Error)]
 pub enum Refusal {
-    // A label is not below the policy's number of labels.
+    /// A label is not below the policy's number of labels.
+    #[error("a label of this line is not below the number of labels")]
     UnknownLabel,
-    // A policy has 1 to 32 labels.
+    /// A policy has 1 to 32 labels.
+    #[error("a policy has 1 to 32 labels")]
     LabelCount,
-    // A label always flows to itself, so that pair is not revoked.
+    /// A label always flows to itself, so that pair is not revoked.
+    #[error("every label may flow to itself, and that pair cannot be revoked")]
     ReflexivePair,
-    // All 32 places for revoked pairs are taken.
+    /// All 32 places for revoked pairs are taken.
+    #[error("32 pairs are revoked already, and no place is left")]
     RevocationsFull,
 }
 
 impl Refusal {
+    /// The number that stands for it.
     pub fn number(self) -> u8
         ensures { result ≡ number_of self }
     {
@@ -40,7 +46,27 @@ impl Refusal {
     }
 }
 
-// A flow relation over labels 0, 1, .. below `size`. Nothing completes it: two pairs imply no third.
+// Refuses a number of labels that no policy has.
+fn check_count(labels: u32) -> Result<(), Refusal>
+    ensures { result ≡ new_answer labels }
+{
+    if labels < 1 || labels > 32 {
+        return Err(Refusal::LabelCount);
+    }
+    Ok(())
+}
+
+// Refuses a label that is not below the number of labels.
+fn check_label(label: u32, labels: u32) -> Result<(), Refusal>
+    ensures { result ≡ label_answer labels label }
+{
+    if label >= labels {
+        return Err(Refusal::UnknownLabel);
+    }
+    Ok(())
+}
+
+/// A flow relation over labels 0, 1, .. below `size`. Nothing completes it: two pairs imply no third.
 pub trait Policy {
     // How many labels there are.
     ghost size: { Self → ℕ };

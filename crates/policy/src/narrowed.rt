@@ -1,4 +1,4 @@
-// Policies less some pairs.
+//! Policies less some pairs.
 ghost use Rattle.std.specs.Prelude.{◌≡◌, ℕ, ◌≤◌, false};
 ghost use Rattle.policy.specs.PairSets.{holds};
 ghost use Rattle.policy.specs.Relations.{pairs_in};
@@ -7,7 +7,7 @@ use super::pair_set::PairSet;
 
 pub mod calls;
 
-// A policy less the pairs that were revoked, at most 32; `taken` counts them.
+/// A policy less the pairs that were revoked, at most 32; `taken` counts them.
 #[derive(Drop)]
 pub struct Narrowed<P> {
     inner: P,

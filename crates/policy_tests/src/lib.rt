@@ -1,4 +1,4 @@
-//! Policies on cases worked out by hand. The number 0 stands for a call that was granted.
+//! Policies on cases worked out by hand.
 #![tactic(auto)]
 
 #[cfg(test)]

@@ -21,14 +21,13 @@ const BLANK: Row = Row {
 
 // A sum that tells tables apart.
 fn table_sum(table: &[Row]) -> i64 {
-    let mut sum = 0i64;
-    for row in table {
-        let letter = i64::from(u32::from(row.letter));
-        for x in [letter, row.a, row.b, row.c, row.d, row.e] {
-            sum = sum.wrapping_mul(31).wrapping_add(x);
-        }
-    }
-    sum
+    table
+        .iter()
+        .flat_map(|row| {
+            let letter = i64::from(u32::from(row.letter));
+            [letter, row.a, row.b, row.c, row.d, row.e]
+        })
+        .fold(0i64, |sum, x| sum.wrapping_mul(31).wrapping_add(x))
 }
 
 // Reads a text: the answer, and how many nanoseconds it took.
@@ -54,9 +53,8 @@ fn bench_file(rt: &HostRuntime, times: u32, name: &str) -> anyhow::Result<()> {
     let sum = table_sum(table.as_slice());
     match answer {
         Ok(rows) => println!(rt; "{name}: {rows} rows, table {sum}")?,
-        Err(refusal) => {
-            let number = refusal.question.number();
-            let row = refusal.row;
+        Err(Refusal { question, row }) => {
+            let number = question.number();
             println!(rt; "{name}: refused {number}, row {row}, table {sum}")?
         }
     }
@@ -65,12 +63,9 @@ fn bench_file(rt: &HostRuntime, times: u32, name: &str) -> anyhow::Result<()> {
 }
 
 fn run(rt: &HostRuntime) -> anyhow::Result<()> {
-    let mut words = env::args(rt)?;
-    let _ = words.next();
-    let Some(times) = words.next() else {
-        return Err(anyhow!("usage: reader_bench TIMES FILE.."));
-    };
-    let times = times.as_str().parse::<u32>()?;
+    let mut words = env::args(rt)?.skip(1);
+    let usage = || anyhow!("usage: reader_bench TIMES FILE..");
+    let times: u32 = words.next().ok_or_else(usage)?.as_str().parse()?;
     for name in words {
         bench_file(rt, times, name.as_str())?;
     }

@@ -3,7 +3,8 @@ use Rattle.std.specs.Prelude.{ℕ, zero, suc, ◌+◌, ◌-◌, Bool, true, fals
 use Rattle.sheet.specs.declared.decoded.NodeRow.{NodeRow}
 use Rattle.sheet.specs.declared.decoded.Kind.{Kind}
 use Rattle.sheet.specs.declared.decoded.Kind.TheVariants.{Literal, Variable, Lambda, Application, New, Channel, Read, Write, Choice, Operation, Unknown}
-use Rattle.sheet.specs.Sheet.{Sheet, parts_of}
+use Rattle.sheet.specs.declared.decoded.Flag.{Flag}
+use Rattle.sheet.specs.Sheet.{Sheet, is_fresh, is_channel, parts_of}
 use Rattle.sheet.specs.Sets.{set_below}
 
 -- a literal from -2^31 to 2^31 - 1
@@ -11,9 +12,9 @@ abbrev pub literal_fits : ℤ → Bool
 literal_fits (pos n) = nat_lt n 2147483648
 literal_fits (negsuc n) = nat_lt n 2147483648
 
--- site s exists, and its flag is the one given
-abbrev pub site_flagged : Sheet → ℕ → ℕ → Bool
-site_flagged S flag s = nat_lt s S.sites && (S.site s).flag == flag
+-- site s exists, and its flag passes the test
+abbrev pub site_flagged : Sheet → (Flag → Bool) → ℕ → Bool
+site_flagged S test s = nat_lt s S.sites && test (S.site s).flag
 
 -- the node row x has an argument that a node of its kind may have; no argument suits a kind that is not known
 abbrev pub lawful_argument : Sheet → NodeRow → Kind → Bool
@@ -21,8 +22,8 @@ lawful_argument S x Literal = literal_fits x.literal
 lawful_argument S x Variable = nat_lt x.argument S.nodes
 lawful_argument S x Lambda = x.argument == 0
 lawful_argument S x Application = x.argument == 0
-lawful_argument S x New = site_flagged S 0 x.argument
-lawful_argument S x Channel = site_flagged S 1 x.argument
+lawful_argument S x New = site_flagged S is_fresh x.argument
+lawful_argument S x Channel = site_flagged S is_channel x.argument
 lawful_argument S x Read = x.argument == 0
 lawful_argument S x Write = x.argument == 0
 lawful_argument S x Choice = x.argument == 0

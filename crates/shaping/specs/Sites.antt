@@ -1,16 +1,7 @@
 -- Question 24: each site is lawful.
-use Rattle.std.specs.Prelude.{ℕ, Bool, true, false, ◌&&◌, ◌||◌, ◌==◌, nat_lt}
+use Rattle.std.specs.Prelude.{ℕ, Bool, ◌&&◌, ◌||◌, ◌==◌, nat_lt}
 use Rattle.sheet.specs.declared.decoded.SiteRow.{SiteRow}
-use Rattle.sheet.specs.declared.decoded.Form.{Form}
-use Rattle.sheet.specs.declared.decoded.Form.TheVariants.{Number, Function, Reference, Unknown}
-use Rattle.sheet.specs.Sheet.{Sheet}
-
--- the form is a number's
-abbrev pub is_number : Form → Bool
-is_number Number = true
-is_number Function = false
-is_number Reference = false
-is_number Unknown = false
+use Rattle.sheet.specs.Sheet.{Sheet, is_number, is_fresh, is_channel}
 
 -- the fields that a site does not use are 0
 abbrev pub spare : SiteRow → Bool
@@ -21,5 +12,5 @@ abbrev pub lawful_site : Sheet → ℕ → Bool
 lawful_site S s =
     nat_lt (S.site s).label 32
     && (nat_lt (S.site s).content S.types
-    && (((S.site s).flag == 0 || ((S.site s).flag == 1 && is_number (S.type (S.site s).content).form))
+    && ((is_fresh (S.site s).flag || (is_channel (S.site s).flag && is_number (S.type (S.site s).content).form))
     && spare (S.site s)))

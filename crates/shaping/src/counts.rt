@@ -1,4 +1,4 @@
-// How many types, sites, nodes and entries a sheet has.
+/// How many types, sites, nodes and entries a sheet has.
 #[derive(Clone, Copy, PartialEq, Debug)]
 pub struct Counts {
     pub types: usize,

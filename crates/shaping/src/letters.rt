@@ -2,7 +2,7 @@ ghost use Rattle.std.specs.Prelude.{◌≡◌};
 ghost use Rattle.sheet.specs.Sheet.{view};
 ghost use Rattle.shaping.specs.Letters.{rank, in_order, from_one, within_limits};
 
-use sheet::{Property, Row, Table};
+use sheet::{Row, Table};
 
 // The place of a letter's rows, and 4 for a letter that there is no row of.
 fn rank(letter: char) -> usize
@@ -17,35 +17,27 @@ fn rank(letter: char) -> usize
     }
 }
 
-// Question 21, of each row.
-#[derive(Clone, Copy)]
-pub struct InOrder<'a> {
-    pub rows: &'a [Row],
-}
-
-impl Property for InOrder<'_> {
-    ghost says = { λ q. in_order q.rows.now };
-
-    fn holds(&self, k: usize) -> bool {
-        let rows = self.rows;
-        if k >= rows.len() {
-            return false;
-        }
-        let here = rank(rows[k].letter);
-        here < 4 && rank(rows[k.saturating_sub(1)].letter) <= here
+/// Question 21, of row k.
+pub fn in_order(rows: &[Row], k: usize) -> bool
+    ensures { result ≡ in_order rows.now k }
+{
+    if k >= rows.len() {
+        return false;
     }
+    let here = rank(rows[k].letter);
+    here < 4 && rank(rows[k.saturating_sub(1)].letter) <= here
 }
 
 // From 1 to the most.
 fn from_one(most: usize, n: usize) -> bool
     ensures { result ≡ from_one most n }
 {
-    1 <= n && n <= most
+    (1..=most).contains(&n)
 }
 
 // Question 22.
-pub(crate) fn within_limits(table: Table) -> bool
-    ensures { result ≡ within_limits (view table.entry.rows.now) }
+pub(crate) fn within_limits(table: &Table) -> bool
+    ensures { result ≡ within_limits (view table.now.rows.now) }
 {
     from_one(128, table.types)
         && from_one(32, table.sites)

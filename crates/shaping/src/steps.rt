@@ -1,17 +1,17 @@
-// From a draft to a shaped sheet: a check that moves nothing, and then a move that cannot refuse.
+//! From a draft to a shaped sheet: a check that moves nothing, and then a move that cannot refuse.
 ghost use Rattle.std.specs.Prelude.{◌≡◌, true};
 ghost use Rattle.sheet.specs.Asked.{once, passed};
 ghost use Rattle.sheet.specs.Sheet.{view};
 ghost use Rattle.shaping.specs.Verdict.{counts_of, letters_verdict, parts_verdict, shape_verdict};
 
 use super::counts::Counts;
-use super::entries::{Covered, LawfulEntry};
-use super::letters::{InOrder, within_limits};
-use super::nodes::{Bound, LawfulNode};
+use super::entries::{covered, lawful_entry};
+use super::letters::{in_order, within_limits};
+use super::nodes::{bound, lawful_node};
 use super::question::Question;
-use super::sites::LawfulSite;
+use super::sites::lawful_site;
 use super::states::{Draft, Shaped};
-use super::types::LawfulType;
+use super::types::lawful_type;
 use sheet::property::all;
 use sheet::{Refusal, Row, Section, Table};
 
@@ -27,70 +27,72 @@ fn ask_once(question: Question, row: usize, yes: bool) -> Result<(), Refusal<Que
 }
 
 // Questions 21 and 22.
-fn check_letters(table: Table) -> Result<(), Refusal<Question>>
-    ensures { result ≡ letters_verdict table.entry.rows.now }
+fn check_letters(table: &Table) -> Result<(), Refusal<Question>>
+    ensures { result ≡ letters_verdict table.now.rows.now }
 {
-    let in_order = InOrder { rows: table.rows };
-    table.ask(Question::Letters, Section::All, &in_order)?;
+    let rows = table.rows;
+    table.ask(Question::Letters, Section::All, |k| in_order(rows, k))?;
     ask_once(Question::Counts, 0, within_limits(table))
 }
 
 // Questions 23 to 27. That the trees cover every node is asked last, and names the last row.
-fn check_parts(table: Table) -> Result<(), Refusal<Question>>
-    ensures { result ≡ parts_verdict (view table.entry.rows.now) }
+fn check_parts(table: &Table) -> Result<(), Refusal<Question>>
+    ensures { result ≡ parts_verdict (view table.now.rows.now) }
 {
-    let types = LawfulType { table };
-    table.ask(Question::Types, Section::Types, &types)?;
-    let sites = LawfulSite { table };
-    table.ask(Question::Sites, Section::Sites, &sites)?;
-    let nodes = LawfulNode { table };
-    table.ask(Question::Nodes, Section::Nodes, &nodes)?;
-    let bound = Bound { table };
-    table.ask(Question::Variables, Section::Nodes, &bound)?;
-    let entries = LawfulEntry { table };
-    table.ask(Question::Entries, Section::Entries, &entries)?;
-    let covered = Covered { table };
-    let last = table.len.saturating_sub(1);
-    ask_once(Question::Entries, last, all(&covered, table.nodes))
+    table.ask(Question::Types, Section::Types, |t| lawful_type(table, t))?;
+    table.ask(Question::Sites, Section::Sites, |s| lawful_site(table, s))?;
+    table.ask(Question::Nodes, Section::Nodes, |i| lawful_node(table, i))?;
+    table.ask(Question::Variables, Section::Nodes, |i| bound(table, i))?;
+    table.ask(
+        Question::Entries,
+        Section::Entries,
+        |e| lawful_entry(table, e),
+    )?;
+    let last = table.rows.len().saturating_sub(1);
+    ask_once(
+        Question::Entries,
+        last,
+        all(table.nodes, |i| covered(table, i)),
+    )
 }
 
 impl<'a> Draft<'a> {
-    // A sheet as it is handed in.
+    /// A sheet as it is handed in.
     pub fn new(rows: &'a [Row]) -> Draft<'a>
-        ensures { result.rows.now ≡ rows.now }
+        ensures { result.table.rows.now ≡ rows.now }
     {
-        Draft { rows }
+        Draft {
+            table: Table::new(rows),
+        }
     }
 
-    // Asks the questions 21 to 27, each of all rows in rising order, up to the first no.
+    /// Asks the questions 21 to 27, each of all rows in rising order, up to the first no.
     pub fn check(&self) -> Result<(), Refusal<Question>>
-        ensures { result ≡ shape_verdict self.now.rows.now }
+        ensures { result ≡ shape_verdict self.now.table.rows.now }
     {
-        let table = Table::new(self.rows);
-        check_letters(table)?;
-        check_parts(table)
+        check_letters(&self.table)?;
+        check_parts(&self.table)
     }
 
-    // The shaped sheet. The check must have said yes.
+    /// The shaped sheet. The check must have said yes.
     pub fn shape(self) -> Shaped<'a>
-        requires { passed (shape_verdict self.rows.now) ≡ true }
-        ensures { result.rows.now ≡ self.entry.rows.now }
+        requires { passed (shape_verdict self.table.rows.now) ≡ true }
+        ensures { result.table.rows.now ≡ self.entry.table.rows.now }
     {
-        Shaped { rows: self.rows }
+        Shaped { table: self.table }
     }
 }
 
 impl Shaped<'_> {
-    // How many types, sites, nodes and entries there are.
+    /// How many types, sites, nodes and entries there are.
     pub fn counts(&self) -> Counts
-        ensures { result ≡ counts_of (view self.now.rows.now) }
+        ensures { result ≡ counts_of (view self.now.table.rows.now) }
     {
-        let table = Table::new(self.rows);
         Counts {
-            types: table.types,
-            sites: table.sites,
-            nodes: table.nodes,
-            entries: table.entries,
+            types: self.table.types,
+            sites: self.table.sites,
+            nodes: self.table.nodes,
+            entries: self.table.entries,
         }
     }
 }

@@ -3,7 +3,7 @@ ghost use Rattle.sheet.specs.Sheet.{view};
 ghost use Rattle.shaping.specs.Types.{nests, lawful_type, lawful_fields};
 
 use sheet::sets::set_below;
-use sheet::{Form, Property, Table, TypeRow};
+use sheet::{Form, Table, TypeRow};
 
 // The fields that the form uses are lawful, and those that it does not use are 0.
 fn lawful_fields(sites: usize, x: &TypeRow) -> bool
@@ -17,38 +17,30 @@ fn lawful_fields(sites: usize, x: &TypeRow) -> bool
     }
 }
 
-// Question 23, of each type.
-#[derive(Clone, Copy)]
-pub struct LawfulType<'a> {
-    pub table: Table<'a>,
-}
-
-impl LawfulType<'_> {
-    // Type t is nested at most n deep; its part types have lower numbers.
-    fn nests(&self, n: usize, t: usize) -> bool
-        ensures { result ≡ nests (view self.now.table.rows.now) n t }
-    {
-        if n == 0 {
-            return false;
+// Type t is nested at most n deep; its part types have lower numbers.
+#[tactic(auto, using(crate::proofs::Levels::nests_none, crate::proofs::Levels::nests_step))]
+fn nests(table: &Table, n: usize, t: usize) -> bool
+    ensures { result ≡ nests (view table.now.rows.now) n t }
+{
+    if n == 0 {
+        return false;
+    }
+    let x = table.type_at(t);
+    match x.form {
+        Form::Function => {
+            x.argument < t
+                && x.result < t
+                && nests(table, n - 1, x.argument)
+                && nests(table, n - 1, x.result)
         }
-        let x = self.table.type_at(t);
-        match x.form {
-            Form::Function => {
-                x.argument < t
-                    && x.result < t
-                    && self.nests(n - 1, x.argument)
-                    && self.nests(n - 1, x.result)
-            }
-            _ => true,
-        }
+        _ => true,
     }
 }
 
-impl Property for LawfulType<'_> {
-    ghost says = { λ q. lawful_type (view q.table.rows.now) };
-
-    fn holds(&self, t: usize) -> bool {
-        let x = self.table.type_at(t);
-        set_below(32, x.set) && lawful_fields(self.table.sites, &x) && self.nests(8, t)
-    }
+/// Question 23, of type t.
+pub fn lawful_type(table: &Table, t: usize) -> bool
+    ensures { result ≡ lawful_type (view table.now.rows.now) t }
+{
+    let x = table.type_at(t);
+    set_below(32, x.set) && lawful_fields(table.sites, &x) && nests(table, 8, t)
 }

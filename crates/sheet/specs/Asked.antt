@@ -20,6 +20,10 @@ every p n = none (first_no p 0 n)
 abbrev pub Each : ℕ → (ℕ → Bool) → Type 0
 Each n p = (k : ℕ) → k < n → p k ≡ true
 
+-- what a test answers, of each of the first n numbers, is what p says; post tells its answers
+abbrev pub Says : {F : Type 0} → (F → ℕ → Bool → Type 0) → F → ℕ → (ℕ → Bool) → Type 0
+Says post test n p = (k : ℕ) (b : Bool) → k < n → post test k b → b ≡ p k
+
 -- yes, or the question that is refused with the row that it names; Q is the kind of questions
 abbrev pub Verdict : Type 0 → Type 0
 Verdict Q = Result (Unit {0}) (Refusal Q)

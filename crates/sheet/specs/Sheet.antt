@@ -1,10 +1,14 @@
 -- The sheet that the rows say. Everything else is stated of this record: the rules, evaluation, the theorems.
-use Rattle.std.specs.Prelude.{ℕ, zero, suc, ◌+◌, ◌-◌, ◌<◌, ◌≤◌, cond, List, [], ◌∷◌, length, ℤ, pos, negsuc, ◌==◌, nat_lt, slice_index_or}
+use Rattle.std.specs.Prelude.{ℕ, zero, suc, ◌+◌, ◌-◌, ◌<◌, ◌≤◌, Bool, true, false, cond, List, [], ◌∷◌, length, ℤ, pos, negsuc, ◌==◌, nat_lt, slice_index_or}
 use Rattle.sheet.specs.declared.row.Row.{Row}
 use Rattle.sheet.specs.declared.section.Section.{Section}
 use Rattle.sheet.specs.declared.section.Section.TheVariants.{All, Types, Sites, Nodes, Entries}
 use Rattle.sheet.specs.declared.decoded.Form.{Form}
 use Rattle.sheet.specs.declared.decoded.Form.TheVariants as form
+use Rattle.sheet.specs.declared.decoded.Flag.{Flag}
+use Rattle.sheet.specs.declared.decoded.Flag.TheVariants as flag
+use Rattle.sheet.specs.declared.decoded.Operator.{Operator}
+use Rattle.sheet.specs.declared.decoded.Operator.TheVariants as operator
 use Rattle.sheet.specs.declared.decoded.Kind.{Kind}
 use Rattle.sheet.specs.declared.decoded.Kind.TheVariants as kind
 use Rattle.sheet.specs.declared.decoded.TypeRow.{TypeRow}
@@ -33,6 +37,56 @@ natural (negsuc n) = 9223372036854775808
 abbrev pub form_of : ℕ → Form
 form_of n = cond (n == 0) form.Number (cond (n == 1) form.Function (cond (n == 2) form.Reference form.Unknown))
 
+-- the form is a number's
+abbrev pub is_number : Form → Bool
+is_number form.Number = true
+is_number form.Function = false
+is_number form.Reference = false
+is_number form.Unknown = false
+
+-- the form is a function's
+abbrev pub is_function : Form → Bool
+is_function form.Number = false
+is_function form.Function = true
+is_function form.Reference = false
+is_function form.Unknown = false
+
+-- the form is a reference's
+abbrev pub is_reference : Form → Bool
+is_reference form.Number = false
+is_reference form.Function = false
+is_reference form.Reference = true
+is_reference form.Unknown = false
+
+-- the form is not known
+abbrev pub is_unknown : Form → Bool
+is_unknown form.Number = false
+is_unknown form.Function = false
+is_unknown form.Reference = false
+is_unknown form.Unknown = true
+
+-- the flag of a site: 0 fresh, 1 channel
+abbrev pub flag_of : ℕ → Flag
+flag_of n = cond (n == 0) flag.Fresh (cond (n == 1) flag.Channel flag.Unknown)
+
+-- the site's cells are made by runs
+abbrev pub is_fresh : Flag → Bool
+is_fresh flag.Fresh = true
+is_fresh flag.Channel = false
+is_fresh flag.Unknown = false
+
+-- the site is a channel
+abbrev pub is_channel : Flag → Bool
+is_channel flag.Fresh = false
+is_channel flag.Channel = true
+is_channel flag.Unknown = false
+
+-- an operation: 0 add, 1 subtract, 2 multiply, 3 divide, 4 less, 5 equal; a number past these reads as the last
+abbrev pub operator_of : ℕ → Operator
+operator_of n =
+    cond (n == 0) operator.Add (cond (n == 1) operator.Subtract (cond (n == 2) operator.Multiply
+    (cond (n == 3) operator.Divide (cond (n == 4) operator.Less operator.Equal))))
+
 -- the kind of a node: 0 literal, 1 variable, 2 lambda, 3 application, 4 new, 5 channel, 6 read, 7 write, 8 choice, 9 operation
 abbrev pub kind_of : ℕ → Kind
 kind_of n =
@@ -44,9 +98,9 @@ kind_of n =
 abbrev pub type_of : Row → TypeRow
 type_of r = record { form = form_of (natural r.a); set = natural r.b; argument = natural r.c; result = natural r.d; effect = natural r.e; sites = natural r.c }
 
--- a site: label, content type, 1 for a channel and 0 for a fresh site; two numbers to spare
+-- a site: label, content type, flag; two numbers to spare
 abbrev pub site_of : Row → SiteRow
-site_of r = record { label = natural r.a; content = natural r.b; flag = natural r.c; d = natural r.d; e = natural r.e }
+site_of r = record { label = natural r.a; content = natural r.b; flag = flag_of (natural r.c); d = natural r.d; e = natural r.e }
 
 -- a node: kind, size, type, control set, argument, which is a literal's whole number too
 abbrev pub node_of : Row → NodeRow

@@ -1,114 +1,136 @@
 // The sheet read off the rows, a row at a time.
 ghost use Rattle.std.specs.Prelude.{◌≡◌, ◌+◌, ◌≤◌, length};
-ghost use Rattle.sheet.specs.Sheet.{natural, form_of, kind_of, type_of, site_of, node_of, entry_of, row_at, count, view, parts_of, part_before};
+ghost use Rattle.sheet.specs.Sheet.{natural, form_of, flag_of, kind_of, operator_of, type_of, site_of, node_of, entry_of, row_at, count, view, parts_of, part_before};
 
-use super::decoded::{EntryRow, Form, Kind, NodeRow, SiteRow, TypeRow};
+use super::decoded::{EntryRow, Flag, Form, Kind, NodeRow, Operator, SiteRow, TypeRow};
 use super::row::Row;
 use super::table::Table;
 
-// Stands for a row that there is none of.
-const NO_ROW: Row = Row {
-    letter: '\0',
-    a: 0,
-    b: 0,
-    c: 0,
-    d: 0,
-    e: 0,
-};
+// Where a number that counts from 0 is asked for, one below zero is past every limit.
+const PAST_EVERY_LIMIT: usize = 1 << 63;
 
-// A number that counts from 0; one below zero is past every limit.
+// A number that counts from 0.
 fn natural_of(x: i64) -> usize
     ensures { result ≡ natural x }
 {
-    if x < 0 {
-        9223372036854775808
-    } else {
-        x as usize
+    usize::try_from(x).unwrap_or(PAST_EVERY_LIMIT)
+}
+
+impl From<usize> for Form {
+    ghost from_gives = { λ n form. form ≡ form_of n };
+
+    fn from(n: usize) -> Form {
+        match n {
+            0 => Form::Number,
+            1 => Form::Function,
+            2 => Form::Reference,
+            _ => Form::Unknown,
+        }
     }
 }
 
-// The form of a type, by its number.
-fn form_of(n: usize) -> Form
-    ensures { result ≡ form_of n }
-{
-    match n {
-        0 => Form::Number,
-        1 => Form::Function,
-        2 => Form::Reference,
-        _ => Form::Unknown,
+impl From<usize> for Flag {
+    ghost from_gives = { λ n flag. flag ≡ flag_of n };
+
+    fn from(n: usize) -> Flag {
+        match n {
+            0 => Flag::Fresh,
+            1 => Flag::Channel,
+            _ => Flag::Unknown,
+        }
     }
 }
 
-// The kind of a node, by its number.
-fn kind_of(n: usize) -> Kind
-    ensures { result ≡ kind_of n }
-{
-    match n {
-        0 => Kind::Literal,
-        1 => Kind::Variable,
-        2 => Kind::Lambda,
-        3 => Kind::Application,
-        4 => Kind::New,
-        5 => Kind::Channel,
-        6 => Kind::Read,
-        7 => Kind::Write,
-        8 => Kind::Choice,
-        9 => Kind::Operation,
-        _ => Kind::Unknown,
+impl From<usize> for Kind {
+    ghost from_gives = { λ n kind. kind ≡ kind_of n };
+
+    fn from(n: usize) -> Kind {
+        match n {
+            0 => Kind::Literal,
+            1 => Kind::Variable,
+            2 => Kind::Lambda,
+            3 => Kind::Application,
+            4 => Kind::New,
+            5 => Kind::Channel,
+            6 => Kind::Read,
+            7 => Kind::Write,
+            8 => Kind::Choice,
+            9 => Kind::Operation,
+            _ => Kind::Unknown,
+        }
     }
 }
 
-// A row read as a type.
-fn type_of(r: Row) -> TypeRow
-    ensures { result ≡ type_of r }
-{
-    TypeRow {
-        form: form_of(natural_of(r.a)),
-        set: natural_of(r.b),
-        argument: natural_of(r.c),
-        result: natural_of(r.d),
-        effect: natural_of(r.e),
-        sites: natural_of(r.c),
+impl From<usize> for Operator {
+    ghost from_gives = { λ n operator. operator ≡ operator_of n };
+
+    fn from(n: usize) -> Operator {
+        match n {
+            0 => Operator::Add,
+            1 => Operator::Subtract,
+            2 => Operator::Multiply,
+            3 => Operator::Divide,
+            4 => Operator::Less,
+            _ => Operator::Equal,
+        }
     }
 }
 
-// A row read as a site.
-fn site_of(r: Row) -> SiteRow
-    ensures { result ≡ site_of r }
-{
-    SiteRow {
-        label: natural_of(r.a),
-        content: natural_of(r.b),
-        flag: natural_of(r.c),
-        d: natural_of(r.d),
-        e: natural_of(r.e),
+impl From<Row> for TypeRow {
+    ghost from_gives = { λ r t. t ≡ type_of r };
+
+    fn from(r: Row) -> TypeRow {
+        TypeRow {
+            form: Form::from(natural_of(r.a)),
+            set: natural_of(r.b),
+            argument: natural_of(r.c),
+            result: natural_of(r.d),
+            effect: natural_of(r.e),
+            sites: natural_of(r.c),
+        }
     }
 }
 
-// A row read as a node.
-fn node_of(r: Row) -> NodeRow
-    ensures { result ≡ node_of r }
-{
-    NodeRow {
-        kind: kind_of(natural_of(r.a)),
-        size: natural_of(r.b),
-        ty: natural_of(r.c),
-        control: natural_of(r.d),
-        argument: natural_of(r.e),
-        literal: r.e,
+impl From<Row> for SiteRow {
+    ghost from_gives = { λ r s. s ≡ site_of r };
+
+    fn from(r: Row) -> SiteRow {
+        SiteRow {
+            label: natural_of(r.a),
+            content: natural_of(r.b),
+            flag: Flag::from(natural_of(r.c)),
+            d: natural_of(r.d),
+            e: natural_of(r.e),
+        }
     }
 }
 
-// A row read as an entry.
-fn entry_of(r: Row) -> EntryRow
-    ensures { result ≡ entry_of r }
-{
-    EntryRow {
-        label: natural_of(r.a),
-        root: natural_of(r.b),
-        c: natural_of(r.c),
-        d: natural_of(r.d),
-        e: natural_of(r.e),
+impl From<Row> for NodeRow {
+    ghost from_gives = { λ r n. n ≡ node_of r };
+
+    fn from(r: Row) -> NodeRow {
+        NodeRow {
+            kind: Kind::from(natural_of(r.a)),
+            size: natural_of(r.b),
+            ty: natural_of(r.c),
+            control: natural_of(r.d),
+            argument: natural_of(r.e),
+            literal: r.e,
+        }
+    }
+}
+
+impl From<Row> for EntryRow {
+    ghost from_gives = { λ r e. e ≡ entry_of r };
+
+    fn from(r: Row) -> EntryRow {
+        EntryRow {
+            label: natural_of(r.a),
+            root: natural_of(r.b),
+            c: natural_of(r.c),
+            d: natural_of(r.d),
+            e: natural_of(r.e),
+        }
     }
 }
 
@@ -117,30 +139,23 @@ fn row_at(rows: &[Row], b: usize, n: usize, k: usize) -> Row
     requires { b + n ≤ length rows.now }
     ensures { result ≡ row_at rows.now b n k }
 {
-    if k < n { rows[b + k] } else { NO_ROW }
+    if k < n { rows[b + k] } else { Row::BLANK }
 }
 
 // How many rows have the letter.
 fn count(rows: &[Row], letter: char) -> usize
     ensures { result ≡ count letter rows.now }
 {
-    let mut n = 0;
-    for r in rows {
-        if r.letter == letter {
-            n += 1;
-        }
-    }
-    n
+    rows.iter().filter(|r| r.letter == letter).count()
 }
 
 impl<'a> Table<'a> {
-    // Any rows at all make a table.
+    /// Any rows at all make a table.
     pub fn new(rows: &'a [Row]) -> Table<'a>
         ensures { result.rows.now ≡ rows.now }
     {
         Table {
             rows,
-            len: rows.len(),
             types: count(rows, 'T'),
             sites: count(rows, 'S'),
             nodes: count(rows, 'N'),
@@ -150,36 +165,40 @@ impl<'a> Table<'a> {
 }
 
 impl Table<'_> {
-    // Type t.
+    /// Type t.
+    #[tactic(auto, unfolding(crate::specs::Sheet::view))]
     pub fn type_at(&self, t: usize) -> TypeRow
         ensures { result ≡ (view self.now.rows.now).type t }
     {
-        type_of(row_at(self.rows, 0, self.types, t))
+        TypeRow::from(row_at(self.rows, 0, self.types, t))
     }
 
-    // Site s.
+    /// Site s.
+    #[tactic(auto, unfolding(crate::specs::Sheet::view))]
     pub fn site_at(&self, s: usize) -> SiteRow
         ensures { result ≡ (view self.now.rows.now).site s }
     {
-        site_of(row_at(self.rows, self.types, self.sites, s))
+        SiteRow::from(row_at(self.rows, self.types, self.sites, s))
     }
 
-    // Node i.
+    /// Node i.
+    #[tactic(auto, unfolding(crate::specs::Sheet::view))]
     pub fn node_at(&self, i: usize) -> NodeRow
         ensures { result ≡ (view self.now.rows.now).node i }
     {
-        node_of(row_at(self.rows, self.types + self.sites, self.nodes, i))
+        NodeRow::from(row_at(self.rows, self.types + self.sites, self.nodes, i))
     }
 
-    // Entry e.
+    /// Entry e.
+    #[tactic(auto, unfolding(crate::specs::Sheet::view))]
     pub fn entry_at(&self, e: usize) -> EntryRow
         ensures { result ≡ (view self.now.rows.now).entry e }
     {
         let first = self.types + self.sites + self.nodes;
-        entry_of(row_at(self.rows, first, self.entries, e))
+        EntryRow::from(row_at(self.rows, first, self.entries, e))
     }
 
-    // The part before the part p of some node: it ends just before p's first node.
+    /// The part before the part p of some node: it ends just before p's first node.
     pub fn part_before(&self, p: usize) -> usize
         ensures { result ≡ part_before (view self.now.rows.now) p }
     {
@@ -188,7 +207,7 @@ impl Table<'_> {
 }
 
 impl Kind {
-    // How many parts a node of this kind has.
+    /// How many parts a node of this kind has.
     pub fn parts(self) -> usize
         ensures { result ≡ parts_of self }
     {

@@ -1,8 +1,8 @@
-// What the rows say, field by field. A number below zero reads as 2^63, which is past every limit;
-// a form or a kind that there is none of reads as `Unknown`.
+//! What the rows say, field by field. A number below zero reads as 2^63, which is past every limit; a
+//! form, a flag or a kind that there is none of reads as `Unknown`.
 
-// The form of a type: 0, 1 and 2 in a row.
-#[derive(Clone, Copy)]
+/// The form of a type: 0, 1 and 2 in a row.
+#[derive(Clone, Copy, Debug, PartialEq, Eq)]
 pub enum Form {
     Number,
     Function,
@@ -10,8 +10,17 @@ pub enum Form {
     Unknown,
 }
 
-// The kind of a node: 0 to 9 in a row.
-#[derive(Clone, Copy)]
+/// Where a site's cells come from: 0 in a row for one that a run makes, 1 for one that a seat posts to.
+#[derive(Clone, Copy, Debug, PartialEq, Eq)]
+pub enum Flag {
+    Fresh,
+    Channel,
+    Unknown,
+}
+
+/// The kind of a node: 0 to 9 in a row. As for forms and flags, a case of its own for a number past the
+/// last is plainer than an `Option`: each rule is one `match` over the kinds.
+#[derive(Clone, Copy, Debug, PartialEq, Eq)]
 pub enum Kind {
     Literal,
     Variable,
@@ -26,9 +35,20 @@ pub enum Kind {
     Unknown,
 }
 
-// A type. The row's third number is a function's argument type and a reference's site set: it is
-// read under both names.
-#[derive(Clone, Copy)]
+/// What an operation does with its two numbers: 0 to 5 in a row. A number past these reads as the last.
+#[derive(Clone, Copy, Debug, PartialEq, Eq)]
+pub enum Operator {
+    Add,
+    Subtract,
+    Multiply,
+    Divide,
+    Less,
+    Equal,
+}
+
+/// A type. The row's third number is a function's argument type and a reference's site set: it is
+/// read under both names.
+#[derive(Clone, Copy, Debug, PartialEq, Eq)]
 pub struct TypeRow {
     pub form: Form,
     pub set: usize,
@@ -38,19 +58,19 @@ pub struct TypeRow {
     pub sites: usize,
 }
 
-// A site: a channel where the flag is 1, a fresh site where it is 0. Two numbers are spare.
-#[derive(Clone, Copy)]
+/// A site. Two numbers are spare.
+#[derive(Clone, Copy, Debug, PartialEq, Eq)]
 pub struct SiteRow {
     pub label: usize,
     pub content: usize,
-    pub flag: usize,
+    pub flag: Flag,
     pub d: usize,
     pub e: usize,
 }
 
-// A node. The row's last number is read as an argument, which counts from 0, and as a literal,
-// which may be below zero.
-#[derive(Clone, Copy)]
+/// A node. The row's last number is read as an argument, which counts from 0, and as a literal,
+/// which may be below zero.
+#[derive(Clone, Copy, Debug, PartialEq, Eq)]
 pub struct NodeRow {
     pub kind: Kind,
     pub size: usize,
@@ -60,8 +80,8 @@ pub struct NodeRow {
     pub literal: i64,
 }
 
-// An entry. Three numbers are spare.
-#[derive(Clone, Copy)]
+/// An entry. Three numbers are spare.
+#[derive(Clone, Copy, Debug, PartialEq, Eq)]
 pub struct EntryRow {
     pub label: usize,
     pub root: usize,

@@ -11,8 +11,7 @@ pub mod section;
 pub mod sets;
 pub mod table;
 
-pub use decoded::{EntryRow, Form, Kind, NodeRow, SiteRow, TypeRow};
-pub use property::Property;
+pub use decoded::{EntryRow, Flag, Form, Kind, NodeRow, Operator, SiteRow, TypeRow};
 pub use refusal::Refusal;
 pub use row::Row;
 pub use section::Section;

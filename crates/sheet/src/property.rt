@@ -1,39 +1,31 @@
-ghost use Rattle.std.specs.Prelude.{◌≡◌, ℕ, Bool};
-ghost use Rattle.sheet.specs.Asked.{first_no, every, asked};
+ghost use Rattle.std.specs.Prelude.{◌≡◌, ◌<◌, ℕ, Bool, IfSome};
+ghost use Rattle.sheet.specs.Asked.{first_no, every, asked, Says};
 ghost use Rattle.sheet.specs.Sheet.{view, first_row, rows_in};
 
 use super::refusal::Refusal;
 use super::section::Section;
 use super::table::Table;
 
-// A test of things that are numbered from 0 on.
-pub trait Property {
-    ghost says: { Self → ℕ → Bool };
-
-    fn holds(&self, k: usize) -> bool
-        ensures { result ≡ says self.now k };
-}
-
-// The first of 0 to n - 1 that has not the property.
-pub fn first_no<P: Property>(property: &P, n: usize) -> Option<usize>
-    ensures { result ≡ first_no (P.Property.says property.now) 0 n }
+/// The first of 0 to n - 1 that the test says no of.
+pub fn first_no<F: Fn(usize) -> bool>(n: usize, test: F) -> Option<usize>
+    requires { F.IsAlwaysCallable test }
+    ensures first { (p : ℕ → Bool) → Says F.post test n p → result ≡ first_no p 0 n }
+    ensures bound { IfSome result (λ k. k < n) }
 {
     for k in 0..n {
-        if !property.holds(k) {
+        if !test(k) {
             return Some(k);
         }
     }
     None
 }
 
-// Each of 0 to n - 1 has the property.
-pub fn all<P: Property>(property: &P, n: usize) -> bool
-    ensures { result ≡ every (P.Property.says property.now) n }
+/// The test says yes of each of 0 to n - 1.
+pub fn all<F: Fn(usize) -> bool>(n: usize, test: F) -> bool
+    requires { F.IsAlwaysCallable test }
+    ensures { (p : ℕ → Bool) → Says F.post test n p → result ≡ every p n }
 {
-    match first_no(property, n) {
-        None => true,
-        Some(_) => false,
-    }
+    first_no(n, test).is_none()
 }
 
 impl Table<'_> {
@@ -54,7 +46,7 @@ impl Table<'_> {
         ensures { result ≡ rows_in (view self.now.rows.now) section }
     {
         match section {
-            Section::All => self.len,
+            Section::All => self.rows.len(),
             Section::Types => self.types,
             Section::Sites => self.sites,
             Section::Nodes => self.nodes,
@@ -62,16 +54,17 @@ impl Table<'_> {
         }
     }
 
-    // Asks the question of each row of the section: the first that has not the property is named.
-    pub fn ask<P: Property, Q: Copy>(
+    /// Asks the question of each row of the section: the first that the test says no of is named.
+    pub fn ask<F: Fn(usize) -> bool, Q: Copy>(
         &self,
         question: Q,
         section: Section,
-        property: &P,
+        test: F,
     ) -> Result<(), Refusal<Q>>
-        ensures { result ≡ asked question (first_row (view self.now.rows.now) section) (P.Property.says property.now) (rows_in (view self.now.rows.now) section) }
+        requires { F.IsAlwaysCallable test }
+        ensures { (p : ℕ → Bool) → Says F.post test (rows_in (view self.now.rows.now) section) p → result ≡ asked question (first_row (view self.now.rows.now) section) p (rows_in (view self.now.rows.now) section) }
     {
-        match first_no(property, self.rows_in(section)) {
+        match first_no(self.rows_in(section), test) {
             None => Ok(()),
             Some(k) => Err(Refusal {
                 question,

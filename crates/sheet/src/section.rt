@@ -1,5 +1,5 @@
-// Which rows of a sheet a question is about.
-#[derive(Clone, Copy)]
+/// Which rows of a sheet a question is about.
+#[derive(Clone, Copy, Debug, PartialEq, Eq)]
 pub enum Section {
     All,
     Types,

@@ -39,20 +39,26 @@ fn sheet_a() -> [Row; 11] {
     ]
 }
 
-// 1000 times the number of the question, and the row; 0 where the sheet is shaped.
-fn verdict(rows: &[Row]) -> usize {
+// The fields of a row.
+type Fields = (char, i64, i64, i64, i64, i64);
+
+// The number of the first question that is answered no, and the row that it names.
+type Verdict = Result<(), (u8, usize)>;
+
+// A row's number, what is put there, and the verdict on the sheet.
+type Change = (usize, Fields, Verdict);
+
+fn verdict(rows: &[Row]) -> Verdict {
     match shaped_counts(rows) {
-        Ok(_) => 0,
-        Err(e) => e.question.number() as usize * 1000 + e.row % 1000,
+        Ok(_) => Ok(()),
+        Err(e) => Err((e.question.number(), e.row)),
     }
 }
 
-// A row's number, the row that is put there, and the verdict on the sheet.
-type Change = (usize, char, i64, i64, i64, i64, i64, usize);
-
-fn put(rows: &mut [Row; 11], c: &Change) {
-    if c.0 < 11 {
-        rows[c.0] = row(c.1, c.2, c.3, c.4, c.5, c.6);
+fn put(rows: &mut [Row], change: &Change) {
+    let (letter, a, b, c, d, e) = change.1;
+    if let Some(place) = rows.get_mut(change.0) {
+        *place = row(letter, a, b, c, d, e);
     }
 }
 
@@ -61,7 +67,7 @@ fn run(rt: &impl Abort, changes: &[Change]) {
     for c in changes {
         let mut rows = sheet_a();
         put(&mut rows, c);
-        assert_eq!(rt; verdict(&rows), c.7);
+        assert_eq!(rt; verdict(&rows), c.2);
     }
 }
 
@@ -70,7 +76,7 @@ fn walk(rt: &impl Abort, changes: &[Change]) {
     let mut rows = sheet_a();
     for c in changes {
         put(&mut rows, c);
-        assert_eq!(rt; verdict(&rows), c.7);
+        assert_eq!(rt; verdict(&rows), c.2);
     }
 }
 

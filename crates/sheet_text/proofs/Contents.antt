@@ -58,7 +58,7 @@ none_either true = refl
 none_either false = refl
 
 digits_quoted : (n : ℕ) (f : List ℕ) → unquoted f ≡ false → digits_after n f ≡ None
-digits_quoted n [] h = let z : ◌≡◌ {A = ℕ} 0 1 = ap (λ b. cond b 1 0) (sym h) in absurd (omega arith)
+digits_quoted n [] h = cc
 digits_quoted n (c ∷ cs) h = go (digits_quoted (n * 10 + (c - 48)) cs) (eqb c 34) refl
   where
     go : (unquoted cs ≡ false → digits_after (n * 10 + (c - 48)) cs ≡ None) → (q : Bool) → eqb c 34 ≡ q → digits_after n (c ∷ cs) ≡ None

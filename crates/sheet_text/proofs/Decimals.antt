@@ -23,7 +23,7 @@ digits_push n m (c ∷ cs) d h e = go (digits_push (n * 10 + (c - 48)) m cs d h)
   where
     go : (digits_after (n * 10 + (c - 48)) cs ≡ Some m → digits_after (n * 10 + (c - 48)) (cs ++ (48 + d) ∷ []) ≡ Some (m * 10 + d)) → (t : Bool) → (leb 48 c && leb c 57) ≡ t → digits_after n (c ∷ (cs ++ (48 + d) ∷ [])) ≡ Some (m * 10 + d)
     go ih true t = let r : digits_after (n * 10 + (c - 48)) cs ≡ Some m = rw t at e in rw t (ih r)
-    go ih false t = let r : ◌≡◌ {A = Option ℕ} None (Some m) = rw t at e in let z : ◌≡◌ {A = ℕ} 0 1 = cc in absurd (omega arith)
+    go ih false t = let r : ◌≡◌ {A = Option ℕ} None (Some m) = rw t at e in cc
 
 plain_push : (ds : List ℕ) (d : ℕ) → d < 10 → Plain ds → Plain (ds ++ (48 + d) ∷ [])
 plain_push [] d h p = ((λ e. omega arith, λ e. omega arith, λ e. omega arith), tt)
@@ -64,7 +64,7 @@ decimal_magnitude n h =
 
 -- a magnitude without a sign is a number from zero up
 unsigned_number : (ds : List ℕ) (n : ℕ) → DigitFirst ds → n < 4294967296 → magnitude ds ≡ Some n → number ds ≡ Some (pos n)
-unsigned_number [] n d h e = let z : ◌≡◌ {A = ℕ} 0 1 = cc in absurd (omega arith)
+unsigned_number [] n d h e = cc
 unsigned_number (c ∷ cs) n d h e =
     let m : eqb c 45 ≡ false = grind (arith, nat_tests) in
     let t : leb n 4294967295 ≡ true = grind (arith, nat_tests) in

@@ -1,5 +1,6 @@
 -- What a row's fields, taken one by one, come to.
-use Rattle.std.proofs.Common.{◌≡◌, ℕ, ◌+◌, ◌-◌, ◌≤◌, min, Bool, true, false, cond, ◌&&◌, eqb, leb, List, [], ◌∷◌, length, get_or, set, ℤ, pos, is_some, Option, unwrap_or, sym, refl, ap, ◌∙◌, ap₂, arith}
+use Rattle.std.proofs.Common.{◌≡◌, ℕ, ◌+◌, ◌-◌, ◌≤◌, min, false, cond, ◌&&◌, eqb, leb, List, [], ◌∷◌, length, get_or, set, ℤ, pos, is_some, Option, unwrap_or, sym, refl, ap, ◌∙◌, ap₂, arith}
+use Rattle.std.proofs.Math.Bool.{and_assoc, and-true}
 use Rattle.std.proofs.lemmas.Bool.Decides.{nat_tests}
 use Rattle.sheet.specs.declared.row.Row.{Row}
 use Rattle.sheet_text.specs.declared.line.Line.{Line}
@@ -15,17 +16,9 @@ further l f = record { fields = min l.fields 6 + 1; letter = l.letter; numeric =
 taken_further : (l : Line) (f : List ℕ) → 1 ≤ l.fields → taken l f ≡ further l f
 taken_further l f h = let e : eqb l.fields 0 ≡ false = grind (arith, nat_tests) in rw e refl
 
-and_assoc : (a b c : Bool) → ((a && b) && c) ≡ (a && (b && c))
-and_assoc true b c = refl
-and_assoc false b c = refl
-
 -- past the first field: how many there are, the letter kept, and whether all are numbers
 pub gathered_further : (l : Line) (fs : List (List ℕ)) → 1 ≤ l.fields → l.fields ≤ 7 → ((gathered l fs).fields ≡ min (l.fields + length fs) 7) × ((gathered l fs).letter ≡ l.letter) × ((gathered l fs).numeric ≡ (l.numeric && all_numbers fs))
-gathered_further l [] h k = (omega arith, refl, and_true l.numeric)
-  where
-    and_true : (b : Bool) → b ≡ (b && true)
-    and_true true = refl
-    and_true false = refl
+gathered_further l [] h k = (omega arith, refl, sym (and-true l.numeric))
 gathered_further l (f ∷ fs) h k =
     let t = taken_further l f h in
     let ih = gathered_further (further l f) fs (omega arith) (omega arith) in

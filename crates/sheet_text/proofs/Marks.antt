@@ -9,7 +9,7 @@ use Rattle.sheet_text.specs.Symbols.{Symbol, quote, comma, newline, byte, symbol
 use Rattle.sheet_text.specs.Grammar.{Rows, end, wrong, ◌then◌, front, field, bare, quoted, closed, rows}
 use Rattle.sheet_text.specs.Lines.{begins, ends_bare, mark, goes_on, continued}
 use Rattle.sheet_text.proofs.Numerals.{tail, tail_is}
-use Rattle.sheet_text.proofs.Scanning.{symbols_plain, symbols_newline}
+use Rattle.sheet_text.proofs.Scanning.{symbols_plain, symbols_newline, symbols_line_end}
 
 -- a symbol of the grammar that a comma, a line's end and the text's end close alike
 pub record Closes (g : List Symbol → List ℕ → Rows) : Type 0 where
@@ -33,13 +33,13 @@ module _ (g : List Symbol → List ℕ → Rows) (closes : Closes g) (f : List �
 
   -- CR and LF at the front
   marked_newline : (c : ℕ) (cs : List ℕ) → (eqb c 13 && begins 10 cs) ≡ true → Marked (c ∷ cs) (Some (RowEnd, 2))
-  marked_newline c [] h = let z : (eqb c 13 && false) ≡ false = grind (arith, nat_tests) in let y : ◌≡◌ {A = ℕ} 0 1 = ap (λ b. cond b 0 1) (sym h ∙ z) in absurd (omega arith)
+  marked_newline c [] h = let z : (eqb c 13 && false) ≡ false = grind (arith, nat_tests) in cc
   marked_newline c (d ∷ ds) h = (ap (λ ss. g ss f) (symbols_newline c d ds h) ∙ closes.at_newline (symbols ds) f, omega arith, λ _. omega arith, λ _. omega arith)
 
   -- each mark ends the field as the grammar has it
   pub marked : (cs : List ℕ) → Marked cs (mark cs)
   unfolding symbols
-  marked [] = (closes.at_end f, omega arith, λ h. h, λ h. let y : ◌≡◌ {A = ℕ} 0 1 = ap (λ b. cond b 1 0) h in absurd (omega arith))
+  marked [] = (closes.at_end f, omega arith, λ h. h, λ h. cc)
   marked (c ∷ cs) = go (eqb c 44) refl (eqb c 13 && begins 10 cs) refl
     where
       go : (k : Bool) → eqb c 44 ≡ k → (l : Bool) → (eqb c 13 && begins 10 cs) ≡ l → Marked (c ∷ cs) (cond k (Some (Comma, 1)) (cond l (Some (RowEnd, 2)) None))
@@ -53,14 +53,14 @@ module _ (g : List Symbol → List ℕ → Rows) (closes : Closes g) (f : List �
 
 -- no mark: neither test held
 unmarked : (k l : Bool) → ◌≡◌ {A = Option (Mark × ℕ)} None (cond k (Some (Comma, 1)) (cond l (Some (RowEnd, 2)) None)) → (k ≡ false) × (l ≡ false)
-unmarked true l h = let z : ◌≡◌ {A = ℕ} 0 1 = cc in absurd (omega arith)
-unmarked false true h = let z : ◌≡◌ {A = ℕ} 0 1 = cc in absurd (omega arith)
+unmarked true l h = cc
+unmarked false true h = cc
 unmarked false false h = (refl, refl)
 
 -- a bare field that no mark ends meets a quotation mark
 pub bare_unmarked : (cs f : List ℕ) → ends_bare cs ≡ true → None ≡ mark cs → bare (symbols cs) f ≡ wrong
 unfolding bare
-bare_unmarked [] f h n = let z : ◌≡◌ {A = ℕ} 0 1 = cc in absurd (omega arith)
+bare_unmarked [] f h n = cc
 bare_unmarked (c ∷ cs) f h n =
     let u = unmarked (eqb c 44) (eqb c 13 && begins 10 cs) n in
     let k = u.0 in
@@ -71,7 +71,7 @@ bare_unmarked (c ∷ cs) f h n =
 -- a closed field that no mark ends meets another byte
 pub closed_unmarked : (cs f : List ℕ) → begins 34 cs ≡ false → None ≡ mark cs → closed (symbols cs) f ≡ wrong
 unfolding closed
-closed_unmarked [] f h n = let z : ◌≡◌ {A = ℕ} 0 1 = cc in absurd (omega arith)
+closed_unmarked [] f h n = cc
 closed_unmarked (c ∷ cs) f h n =
     let u = unmarked (eqb c 44) (eqb c 13 && begins 10 cs) n in
     rw (symbols_plain c cs u.1, h, u.0) refl
@@ -101,8 +101,8 @@ symbol_other c ne e = go (eqb c 34) refl (eqb c 44) e
   where
     go : (q : Bool) → eqb c 34 ≡ q → (k : Bool) → cond q quote (cond k comma (byte c)) ≡ quote → ⊥
     go true eq k e = ne (grind (arith, nat_tests))
-    go false eq true e = let z : ◌≡◌ {A = ℕ} 0 1 = cc in omega arith
-    go false eq false e = let z : ◌≡◌ {A = ℕ} 0 1 = cc in omega arith
+    go false eq true e = cc
+    go false eq false e = cc
 
 pub field_bare : (xs : List ℕ) → (0 < length xs → get_or xs 0 0 ≡ 34 → ⊥) → field (symbols xs) ≡ bare (symbols xs) []
 unfolding field bare symbols
@@ -114,11 +114,7 @@ field_bare (c ∷ cs) h = go (eqb c 13 && begins 10 cs) refl
 
     go : (l : Bool) → (eqb c 13 && begins 10 cs) ≡ l → field (symbols (c ∷ cs)) ≡ bare (symbols (c ∷ cs)) []
     go false l = rw (symbols_plain c cs l) (field_symbol (symbol c) (symbols cs) (symbol_other c lone))
-    go true l = newline_first cs l
-      where
-        newline_first : (cs : List ℕ) → (eqb c 13 && begins 10 cs) ≡ true → field (symbols (c ∷ cs)) ≡ bare (symbols (c ∷ cs)) []
-        newline_first [] l = let z : (eqb c 13 && false) ≡ false = grind (arith, nat_tests) in let y : ◌≡◌ {A = ℕ} 0 1 = ap (λ b. cond b 0 1) (sym l ∙ z) in absurd (omega arith)
-        newline_first (d ∷ ds) l = rw (symbols_newline c d ds l) refl
+    go true l = rw (symbols_line_end c cs l) refl
 
 -- where a field begins with a quotation mark it is a quoted one
 pub field_quoted : (xs : List ℕ) → 0 < length xs → get_or xs 0 0 ≡ 34 → field (symbols xs) ≡ quoted (symbols (tail xs)) []

@@ -1,27 +1,8 @@
--- How the scan of a number follows its definition.
-use Rattle.std.proofs.Common.{◌≡◌, ℕ, ◌+◌, ◌-◌, ◌*◌, ◌^◌, ◌<◌, ◌≤◌, List, [], ◌∷◌, length, get_or, take, drop, pos, neg_ℤ, None, refl, ap, ◌∙◌, le_refl, pow-suc, add-one, arith}
-use native.Mathlib.Nat.{pow-le-pow_right}
-use Rattle.std.proofs.lemmas.List.{drop_more}
+-- A number's digits, and the rest of a slice pattern.
+use Rattle.std.proofs.Common.{◌≡◌, ℕ, ◌-◌, ◌<◌, ◌≤◌, List, ◌∷◌, length, take, drop, le_refl, arith}
 use Rattle.std.proofs.lemmas.Slice.{between_to_end}
 use Rattle.std.proofs.lemmas.Bool.Decides.{nat_tests}
-use Rattle.sheet_text.specs.Fields.{digits_after, magnitude, at_most, number}
-
-module _ (n : ℕ) (xs : List ℕ) (i : ℕ) (h : i < length xs) where
-  -- one digit more
-  pub digit_on : 48 ≤ get_or xs i 0 → get_or xs i 0 ≤ 57 → digits_after n (drop i xs) ≡ digits_after (n * 10 + (get_or xs i 0 - 48)) (drop (i + 1) xs)
-  digit_on lo hi = ap (digits_after n) (drop_more xs i 0 h) ∙ grind (arith, nat_tests)
-
-  -- a byte that is no digit
-  pub digit_stops : (48 ≤ get_or xs i 0 → get_or xs i 0 ≤ 57 → ⊥) → digits_after n (drop i xs) ≡ None
-  digit_stops ne = ap (digits_after n) (drop_more xs i 0 h) ∙ grind (arith, nat_tests)
-
--- a digit more is a power of ten more
-pub digit_room : (n i b : ℕ) → n < 10 ^ i → b ≤ 57 → n * 10 + (b - 48) < 10 ^ (i + 1)
-digit_room n i b h top = rw (add-one, pow-suc) (omega arith)
-
--- up to nine digits are worth less than 10^9
-pub digits_small : (n i : ℕ) → n < 10 ^ i → i < 10 → n < 1000000000
-digits_small n i h few = let p : 10 ^ i ≤ 10 ^ 9 = pow-le-pow_right (omega arith) {i = i} {j = 9} (omega arith) in omega arith
+use Rattle.sheet_text.specs.Fields.{digits_after, magnitude}
 
 -- of one to ten bytes, the magnitude is what the digits write
 pub magnitude_short : (xs : List ℕ) → 0 < length xs → length xs ≤ 10 → magnitude xs ≡ digits_after 0 xs
@@ -33,8 +14,3 @@ tail xs = take (length xs - 1) (drop 1 xs)
 
 pub tail_is : (c : ℕ) (cs : List ℕ) → tail (c ∷ cs) ≡ cs
 tail_is c cs = between_to_end (c ∷ cs) 1 (length (c ∷ cs)) (le_refl _)
-
--- a number that begins with a minus sign
-pub number_minus : (xs : List ℕ) → 0 < length xs → get_or xs 0 0 ≡ 45 → number xs ≡ at_most 2147483648 (λ m. neg_ℤ (pos m)) (magnitude (tail xs))
-number_minus [] h e = absurd (omega arith)
-number_minus (c ∷ cs) h e = rw (tail_is c cs, e) refl

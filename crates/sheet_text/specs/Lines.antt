@@ -7,8 +7,6 @@ use Rattle.sheet_text.specs.declared.scan.Mark.TheVariants.{Comma, RowEnd}
 use Rattle.sheet_text.specs.declared.scan.Step.{Step}
 use Rattle.sheet_text.specs.Symbols.{Symbol, symbols}
 use Rattle.sheet_text.specs.Grammar.{Rows, wrong, ◌then◌, front, field, rows}
-use Rattle.sheet_text.specs.declared.scan.Inside.{Inside}
-use Rattle.sheet_text.specs.declared.scan.Inside.TheVariants.{Nothing, Doubled, Closing, Other}
 
 -- the bytes begin with this one
 abbrev pub begins : ℕ → List ℕ → Bool
@@ -19,11 +17,6 @@ begins b (c ∷ cs) = c == b
 abbrev pub ends_bare : List ℕ → Bool
 ends_bare [] = true
 ends_bare (c ∷ cs) = c == 44 || (c == 34 || (c == 13 && begins 10 cs))
-
--- what the rest of a quoted field begins with
-abbrev pub inside : List ℕ → Inside
-inside [] = Nothing
-inside (c ∷ cs) = cond (c == 34) (cond (begins 34 cs) Doubled Closing) Other
 
 -- what ends a field, and how many bytes it is
 abbrev pub mark : List ℕ → Option (Mark × ℕ)

@@ -1,5 +1,5 @@
 -- What the reader makes of a row.
-use Rattle.std.specs.Prelude.{◌≡◌, ℕ, ◌+◌, ◌-◌, ◌<◌, ◌≤◌, min, Bool, true, cond, ◌&&◌, List, [], ◌∷◌, length, drop, pos, is_some, Some, None, Ok, Option, Result, ◌==◌, nat_le, slice_index_or, slice_set}
+use Rattle.std.specs.Prelude.{◌≡◌, ℕ, ◌+◌, ◌-◌, ◌<◌, ◌≤◌, min, Bool, true, cond, ◌&&◌, List, [], ◌∷◌, length, drop, pos, is_some, Some, None, Ok, Err, Option, Result, ◌==◌, nat_le, slice_index_or, slice_set}
 use Rattle.std.specs.Option.{unwrap_or}
 use Rattle.sheet.specs.declared.row.Row.{Row}
 use Rattle.sheet_text.specs.declared.line.Line.{Line}
@@ -7,8 +7,7 @@ use Rattle.sheet_text.specs.declared.read.Faults.{Faults}
 use Rattle.sheet_text.specs.declared.refusal.Question.TheVariants.{FieldCount, Letter, Number}
 use Rattle.sheet_text.specs.declared.refusal.Refusal.{Refusal}
 use Rattle.sheet_text.specs.declared.reader.Reader.{Reader}
-use Rattle.sheet_text.specs.declared.reader.NextRow.{NextRow}
-use Rattle.sheet_text.specs.declared.reader.NextRow.TheVariants.{NoRow, Misquoted, Fields}
+use Rattle.sheet_text.specs.declared.reader.Misquoted.{Misquoted}
 use Rattle.sheet_text.specs.Symbols.{symbols}
 use Rattle.sheet_text.specs.Grammar.{Rows, end, wrong, ◌then◌, field, rows}
 use Rattle.sheet_text.specs.Fields.{letter, number}
@@ -39,13 +38,13 @@ abbrev pub rows_from : Reader → Rows
 rows_from r = rows (symbols (drop r.pos r.input.now))
 
 -- what reading the next row gives, where some of its fields have been read
-abbrev pub next_after : Line → Rows → NextRow
-next_after l end = NoRow
-next_after l wrong = Misquoted
-next_after l (fs then rs) = Fields (gathered l fs)
+abbrev pub next_after : Line → Rows → Option (Result Line Misquoted)
+next_after l end = None
+next_after l wrong = Some (Err (record {}))
+next_after l (fs then rs) = Some (Ok (gathered l fs))
 
 -- what reading the next row gives
-abbrev pub next : Rows → NextRow
+abbrev pub next : Rows → Option (Result Line Misquoted)
 next rs = next_after blank rs
 
 -- the rows after the next one
@@ -55,17 +54,17 @@ after wrong = wrong
 after (fs then rs) = rs
 
 -- how many rows were read
-abbrev pub rows_read : NextRow → ℕ
-rows_read NoRow = 0
-rows_read Misquoted = 0
-rows_read (Fields l) = 1
+abbrev pub rows_read : Option (Result Line Misquoted) → ℕ
+rows_read None = 0
+rows_read (Some (Err e)) = 0
+rows_read (Some (Ok l)) = 1
 
 -- what reading the fields of the row that begins at `start` comes to: the line, and the next row's place
-abbrev pub RowRead : List ℕ → ℕ → Option (Line × ℕ) → Type 0
-RowRead text start None = next (field (symbols (drop start text))) ≡ Misquoted
-RowRead text start (Some p) =
+abbrev pub RowRead : List ℕ → ℕ → Result (Line × ℕ) Misquoted → Type 0
+RowRead text start (Err e) = next (field (symbols (drop start text))) ≡ Some (Err e)
+RowRead text start (Ok p) =
     (start < p.1) × (p.1 ≤ length text)
-    × (next (field (symbols (drop start text))) ≡ Fields p.0)
+    × (next (field (symbols (drop start text))) ≡ Some (Ok p.0))
     × (after (field (symbols (drop start text))) ≡ rows (symbols (drop p.1 text)))
 
 -- the first row at fault: one that was noted before, else this one where something does not hold of it

@@ -1,5 +1,6 @@
 ghost use Rattle.std.specs.Prelude.{◌≡◌, pos, neg_ℤ};
 ghost use Rattle.sheet_text.specs.Fields.{letter, magnitude as worth, at_most, number};
+ghost use Rattle.sheet_text.specs.Lines.{raw};
 
 // A field of the text, with its place in the input: bare, or quoted and without the quotation
 // marks around it, doubled ones inside it as they stand.
@@ -7,6 +8,17 @@ ghost use Rattle.sheet_text.specs.Fields.{letter, magnitude as worth, at_most, n
 pub(crate) enum Field<'a> {
     Bare { bytes: &'a [u8], at: usize },
     Quoted { bytes: &'a [u8], at: usize },
+}
+
+impl<'a> Field<'a> {
+    // The bytes of the field.
+    pub(crate) fn bytes(self) -> &'a [u8]
+        ensures { result.now ≡ raw self.entry }
+    {
+        match self {
+            Field::Bare { bytes, at: _ } | Field::Quoted { bytes, at: _ } => bytes,
+        }
+    }
 }
 
 // The letter that these bytes are.
@@ -29,9 +41,10 @@ fn magnitude_of(digits: &[u8]) -> Option<u64>
     if digits.is_empty() || digits.len() > 10 {
         return None;
     }
+    // no fold: its closure would not know that ten digits fit
     let mut n: u64 = 0;
     for digit in digits {
-        if *digit < b'0' || *digit > b'9' {
+        if !digit.is_ascii_digit() {
             return None;
         }
         n = n * 10 + u64::from(*digit - b'0');
@@ -43,20 +56,15 @@ fn magnitude_of(digits: &[u8]) -> Option<u64>
 fn negative(magnitude: Option<u64>) -> Option<i64>
     ensures { result ≡ at_most 2147483648 (λ m. neg_ℤ (pos m)) magnitude }
 {
-    match magnitude {
-        Some(m) if m <= 2147483648 => Some(-(m as i64)),
-        _ => None,
-    }
+    let number = -i64::try_from(magnitude?).ok()?;
+    i32::try_from(number).ok().map(i64::from)
 }
 
 // A magnitude from zero up, to 2^32 - 1.
 fn positive(magnitude: Option<u64>) -> Option<i64>
     ensures { result ≡ at_most 4294967295 pos magnitude }
 {
-    match magnitude {
-        Some(m) if m <= 4294967295 => Some(m as i64),
-        _ => None,
-    }
+    u32::try_from(magnitude?).ok().map(i64::from)
 }
 
 // The number that these bytes are.

@@ -1,4 +1,4 @@
-ghost use Rattle.std.specs.Prelude.{◌≡◌, ◌&&◌};
+ghost use Rattle.std.specs.Prelude.{◌≡◌};
 ghost use Rattle.sheet_text.specs.Rows.{blank as no_fields, taken, row_in};
 
 use super::field::{letter_of, number_of};
@@ -15,13 +15,6 @@ pub(crate) struct Line {
     pub(crate) numeric: bool,
     // the numbers of the five after the first
     values: [i64; 5],
-}
-
-// Whether both hold.
-fn both(a: bool, b: bool) -> bool
-    ensures { result ≡ (a && b) }
-{
-    a && b
 }
 
 impl Line {
@@ -48,9 +41,10 @@ impl Line {
             return;
         }
         let number = number_of(field);
-        self.numeric = both(self.numeric, number.is_some());
+        self.numeric &= number.is_some();
         self.fields = fields.min(6) + 1;
-        if fields <= 5 {
+        // by index, since of what `get_mut` lends a proof knows no element afterwards
+        if fields <= self.values.len() {
             self.values[fields - 1] = number.unwrap_or(0);
         }
     }
@@ -59,13 +53,14 @@ impl Line {
     pub(crate) fn row(&self) -> Row
         ensures { result ≡ row_in self.now }
     {
+        let [a, b, c, d, e] = self.values;
         Row {
             letter: self.letter.unwrap_or('\0'),
-            a: self.values[0],
-            b: self.values[1],
-            c: self.values[2],
-            d: self.values[3],
-            e: self.values[4],
+            a,
+            b,
+            c,
+            d,
+            e,
         }
     }
 }

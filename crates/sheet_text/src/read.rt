@@ -2,10 +2,10 @@ ghost use Rattle.std.specs.Prelude.{◌≡◌, length};
 ghost use Rattle.sheet_text.specs.Symbols.{symbols};
 ghost use Rattle.sheet_text.specs.Grammar.{rows};
 ghost use Rattle.sheet_text.specs.Questions.{judged, filled, reading, table_after};
-ghost use Rattle.sheet_text.specs.Rows.{noted, no_faults, faults_with, faults_verdict};
+ghost use Rattle.sheet_text.specs.Rows.{faults_with, faults_verdict};
 
 use super::line::Line;
-use super::reader::{NextRow, Reader};
+use super::reader::Reader;
 use super::refusal::{Question, Refusal};
 use sheet::Row;
 
@@ -13,42 +13,22 @@ use sheet::Row;
 const LONGEST: usize = 60_000;
 
 // The first row at fault so far, by question.
-#[derive(Clone, Copy)]
+#[derive(Clone, Copy, Default)]
 struct Faults {
     field_count: Option<usize>,
     letter: Option<usize>,
     number: Option<usize>,
 }
 
-// The first row at fault: one that was noted before, else this one where something does not hold of it.
-fn note(first: Option<usize>, holds: bool, row: usize) -> Option<usize>
-    ensures { result ≡ noted first holds row }
-{
-    match first {
-        None if !holds => Some(row),
-        _ => first,
-    }
-}
-
 impl Faults {
-    fn none() -> Faults
-        ensures { result ≡ no_faults }
-    {
-        Faults {
-            field_count: None,
-            letter: None,
-            number: None,
-        }
-    }
-
     // With what is asked of one row more.
     fn with(self, line: Line, row: usize) -> Faults
         ensures { result ≡ faults_with self line row }
     {
         Faults {
-            field_count: note(self.field_count, line.fields == 6, row),
-            letter: note(self.letter, line.letter.is_some(), row),
-            number: note(self.number, line.numeric, row),
+            field_count: self.field_count.or((line.fields != 6).then_some(row)),
+            letter: self.letter.or(line.letter.is_none().then_some(row)),
+            number: self.number.or((!line.numeric).then_some(row)),
         }
     }
 
@@ -56,24 +36,9 @@ impl Faults {
     fn verdict(self, rows: usize) -> Result<usize, Refusal>
         ensures { result ≡ faults_verdict self rows }
     {
-        if let Some(row) = self.field_count {
-            return Err(Refusal {
-                question: Question::FieldCount,
-                row,
-            });
-        }
-        if let Some(row) = self.letter {
-            return Err(Refusal {
-                question: Question::Letter,
-                row,
-            });
-        }
-        if let Some(row) = self.number {
-            return Err(Refusal {
-                question: Question::Number,
-                row,
-            });
-        }
+        Question::FieldCount.ask(self.field_count)?;
+        Question::Letter.ask(self.letter)?;
+        Question::Number.ask(self.number)?;
         Ok(rows)
     }
 }
@@ -83,19 +48,14 @@ fn survey(input: &[u8]) -> Result<usize, Refusal>
     ensures { result ≡ judged (rows (symbols input.now)) }
 {
     let mut reader = Reader::new(input);
-    let mut faults = Faults::none();
-    loop {
-        match reader.read_row() {
-            NextRow::NoRow => return faults.verdict(reader.rows_read()),
-            NextRow::Misquoted => {
-                return Err(Refusal {
-                    question: Question::Quoting,
-                    row: reader.rows_read() + 1,
-                });
-            }
-            NextRow::Fields(line) => faults = faults.with(line, reader.rows_read()),
-        }
+    let mut faults = Faults::default();
+    while let Some(row) = reader.read_row() {
+        let Ok(line) = row else {
+            return Err(Question::Quoting.refused_at(reader.rows_read() + 1));
+        };
+        faults = faults.with(line, reader.rows_read());
     }
+    faults.verdict(reader.rows_read())
 }
 
 // Writes the rows over the first places of the table.
@@ -103,11 +63,11 @@ fn fill(input: &[u8], table: &mut [Row])
     ensures { table.new ≡ filled table.old (rows (symbols input.now)) }
 {
     let mut reader = Reader::new(input);
-    for i in 0..table.len() {
-        let NextRow::Fields(line) = reader.read_row() else {
+    for place in table.iter_mut() {
+        let Some(Ok(line)) = reader.read_row() else {
             return;
         };
-        table[i] = line.row();
+        *place = line.row();
     }
 }
 
@@ -119,18 +79,12 @@ pub fn read_sheet(input: &[u8], table: &mut [Row]) -> Result<usize, Refusal>
     ensures after { table.new ≡ table_after table.old input.now }
 {
     if input.len() > LONGEST {
-        return Err(Refusal {
-            question: Question::Length,
-            row: 1,
-        });
+        return Err(Question::Length.refused_at(1));
     }
     let count = survey(input)?;
     let room = table.len();
     if count > room {
-        return Err(Refusal {
-            question: Question::Room,
-            row: room + 1,
-        });
+        return Err(Question::Room.refused_at(room + 1));
     }
     fill(input, table);
     Ok(count)

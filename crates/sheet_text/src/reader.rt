@@ -15,10 +15,6 @@ pub(crate) struct Reader<'a> {
     ghost counted: { row ≤ pos },
 }
 
-// What comes next: no row, a row whose quoting is wrong, or what the fields of a row say.
+// A row whose quoting is wrong.
 #[derive(Clone, Copy)]
-pub(crate) enum NextRow {
-    NoRow,
-    Misquoted,
-    Fields(Line),
-}
+pub(crate) struct Misquoted;

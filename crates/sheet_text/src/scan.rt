@@ -1,7 +1,7 @@
 ghost use Rattle.std.specs.Prelude.{◌≡◌, ℕ, ◌+◌, ◌<◌, ◌≤◌, true, false, List, [], length, take, drop, IfSome, MatchOption};
 ghost use Rattle.sheet_text.specs.Symbols.{symbols};
 ghost use Rattle.sheet_text.specs.Grammar.{wrong, field, bare, quoted, closed};
-ghost use Rattle.sheet_text.specs.Lines.{ends_bare, inside, mark, begins, Scanned};
+ghost use Rattle.sheet_text.specs.Lines.{ends_bare, mark, begins, Scanned};
 
 use super::field::Field;
 
@@ -10,10 +10,7 @@ use super::field::Field;
 fn ends_bare_field(rest: &[u8]) -> bool
     ensures { result ≡ ends_bare rest.now }
 {
-    match rest {
-        [] | [b',', ..] | [b'"', ..] | [b'\r', b'\n', ..] => true,
-        _ => false,
-    }
+    matches!(rest, [] | [b',' | b'"', ..] | [b'\r', b'\n', ..])
 }
 
 // How many bytes at the front belong to a bare field.
@@ -22,32 +19,12 @@ fn bare_len(rest: &[u8]) -> usize
     ensures ends { ends_bare (drop result rest.now) ≡ true }
     ensures read { bare (symbols rest.now) [] ≡ bare (symbols (drop result rest.now)) (take result rest.now) }
 {
-    let mut n = 0;
-    while !ends_bare_field(&rest[n..]) {
-        n += 1;
+    for n in 0..rest.len() {
+        if ends_bare_field(&rest[n..]) {
+            return n;
+        }
     }
-    n
-}
-
-// What the rest of a quoted field begins with: nothing, two quotation marks, one alone, or another
-// byte.
-#[derive(Clone, Copy)]
-enum Inside {
-    Nothing,
-    Doubled,
-    Closing,
-    Other,
-}
-
-fn look_inside(rest: &[u8]) -> Inside
-    ensures { result ≡ inside rest.now }
-{
-    match rest {
-        [] => Inside::Nothing,
-        [b'"', b'"', ..] => Inside::Doubled,
-        [b'"', ..] => Inside::Closing,
-        _ => Inside::Other,
-    }
+    rest.len()
 }
 
 // How many bytes stand before the quotation mark that closes a quoted field; none where it stays
@@ -57,13 +34,14 @@ fn quoted_len(rest: &[u8]) -> Option<usize>
     ensures ends { IfSome result (λ n. begins 34 (drop (n + 1) rest.now) ≡ false) }
     ensures read { MatchOption result (quoted (symbols rest.now) [] ≡ wrong) (λ n. quoted (symbols rest.now) [] ≡ closed (symbols (drop (n + 1) rest.now)) (take n rest.now)) }
 {
+    // counted by hand, since two marks move it by two places, which no `for` does
     let mut n = 0;
     loop {
-        match look_inside(&rest[n..]) {
-            Inside::Nothing => return None,
-            Inside::Doubled => n += 2,
-            Inside::Closing => return Some(n),
-            Inside::Other => n += 1,
+        match &rest[n..] {
+            [] => return None,
+            [b'"', b'"', ..] => n += 2,
+            [b'"', ..] => return Some(n),
+            _ => n += 1,
         }
     }
 }
@@ -87,7 +65,8 @@ fn mark_of(rest: &[u8]) -> Option<(Mark, usize)>
     }
 }
 
-// A field, what ends it, and how many bytes both are.
+// A field, what ends it, and how many bytes both are: a size, and not the rest of the text, since
+// the reader's place moves by it and each field tells its own.
 #[derive(Clone, Copy)]
 pub(crate) struct Step<'a> {
     pub(crate) field: Field<'a>,
@@ -100,37 +79,31 @@ fn bare_field<'a>(rest: &'a [u8], at: usize) -> Option<Step<'a>>
     ensures { Scanned rest.now (bare (symbols rest.now) []) at result }
 {
     let n = bare_len(rest);
-    match mark_of(&rest[n..]) {
-        Some((mark, size)) => {
-            let bytes = &rest[0..n];
-            Some(Step {
-                field: Field::Bare { bytes, at },
-                mark,
-                size: n + size,
-            })
-        }
-        None => None,
-    }
+    let (mark, size) = mark_of(&rest[n..])?;
+    Some(Step {
+        field: Field::Bare {
+            bytes: &rest[..n],
+            at,
+        },
+        mark,
+        size: n + size,
+    })
 }
 
 // The rest of a quoted field, which began at the place `at`, after its quotation mark.
 fn quoted_field<'a>(rest: &'a [u8], at: usize) -> Option<Step<'a>>
     ensures { Scanned rest.now (quoted (symbols rest.now) []) at result }
 {
-    match quoted_len(rest) {
-        Some(n) => match mark_of(&rest[n + 1..]) {
-            Some((mark, size)) => {
-                let bytes = &rest[0..n];
-                Some(Step {
-                    field: Field::Quoted { bytes, at },
-                    mark,
-                    size: n + 1 + size,
-                })
-            }
-            None => None,
+    let n = quoted_len(rest)?;
+    let (mark, size) = mark_of(&rest[n + 1..])?;
+    Some(Step {
+        field: Field::Quoted {
+            bytes: &rest[..n],
+            at,
         },
-        None => None,
-    }
+        mark,
+        size: n + 1 + size,
+    })
 }
 
 // The field that begins at the place `at`; none where its quoting is wrong.
@@ -138,14 +111,13 @@ pub(crate) fn next_field<'a>(rest: &'a [u8], at: usize) -> Option<Step<'a>>
     ensures { Scanned rest.now (field (symbols rest.now)) at result }
 {
     match rest {
-        [b'"', inner @ ..] => match quoted_field(inner, at) {
-            Some(step) => Some(Step {
-                field: step.field,
-                mark: step.mark,
+        [b'"', inner @ ..] => {
+            let step = quoted_field(inner, at)?;
+            Some(Step {
                 size: step.size + 1,
-            }),
-            None => None,
-        },
+                ..step
+            })
+        }
         _ => bare_field(rest, at),
     }
 }

@@ -142,8 +142,7 @@ const WHOLE_SHEET: [Case; 1] = [(
 
 // Reads each text; the answer is the number of its rows.
 fn check_all(rt: &(impl Abort + AllocGlobal), cases: &[Case]) -> Result<(), Fail> {
-    for case in cases {
-        let (name, text, rows) = *case;
+    for &(name, text, rows) in cases {
         check_reading(rt, name, rt.alloc(), text, PLACES, Ok(rows.len()), rows)?;
     }
     Ok(())

@@ -142,8 +142,7 @@ const TOO_SHORT: [Case; 5] = [
 ];
 
 fn check_all(rt: &(impl Abort + AllocGlobal), cases: &[Case]) -> Result<(), Fail> {
-    for case in cases {
-        let (name, text, room, question, row) = *case;
+    for &(name, text, room, question, row) in cases {
         let refusal = Err(Refusal { question, row });
         check_reading(rt, name, rt.alloc(), text, room, refusal, &[])?;
     }

@@ -202,8 +202,7 @@ fn check_all(
     question: Question,
     cases: &[Case],
 ) -> Result<(), Fail> {
-    for case in cases {
-        let (name, text, row) = *case;
+    for &(name, text, row) in cases {
         let refusal = Err(Refusal { question, row });
         check_reading(rt, name, rt.alloc(), text, PLACES, refusal, &[])?;
     }

@@ -1,5 +1,6 @@
 -- The live elements: how many there are, and the last of them.
-use Rattle.std.proofs.Common.{◌≡◌, ℕ, zero, suc, ◌-◌, ◌<◌, ◌≤◌, List, [], ◌∷◌, ◌++◌, length, get_or, take, Some, sym, ap, ◌∙◌, sub-one, arith, length-take-le, take-suc}
+use Rattle.std.proofs.Common.{◌≡◌, ℕ, zero, suc, ◌-◌, ◌<◌, ◌≤◌, List, [], ◌∷◌, ◌++◌, length, get_or, take, Some, sym, set, ap, ◌∙◌, sub-one, arith, length-take-le, take-suc}
+use lib.Seq.{take-set-lt}
 use Rattle.stack.specs.declared.BoundedStack.{BoundedStack}
 use Rattle.stack.specs.Ends.{top, below_top}
 use Rattle.stack.specs.Live.{live}
@@ -21,3 +22,7 @@ module _ {T : Type 0} where
 
   pub below_top_take : (l : List T) (n : ℕ) (d : T) → 0 < n → n ≤ length l → take (n - 1) l ≡ below_top (take n l)
   below_top_take l n d h k = sym (ap below_top (take_last l n d h k) ∙ below_top_push (take (n - 1) l) (get_or l (n - 1) d))
+
+  -- a live element is replaced in the list of them too
+  pub set_live : (s : BoundedStack T) (i : ℕ) (x : T) → i < length (live s) → take s.count (set s.items.now i x) ≡ set (live s) i x
+  set_live s i x h = let l = live_length s in take-set-lt _ _ _ _ (omega arith)

@@ -1,8 +1,8 @@
 //! What a stack does. `live` is the list of its elements, `room` how many it can hold; what the slice
 //! holds above the live elements is left open.
-ghost use Rattle.std.specs.Prelude.{◌≡◌, ◌<◌, [], ◌∷◌, ◌++◌, length, if◌then◌else◌, Some, nat_le, nat_lt, slice_set};
+ghost use Rattle.std.specs.Prelude.{◌≡◌, [], ◌∷◌, ◌++◌, length, if◌then◌else◌, nat_le, nat_lt, slice_set};
 ghost use Rattle.std.specs.List.{slice_get};
-ghost use Rattle.stack.specs.Live.{live, room};
+ghost use Rattle.stack.specs.Live.{live, room, SameArea};
 ghost use Rattle.stack.specs.Ends.{top, below_top, LastInFirstOut};
 
 use super::BoundedStack;
@@ -33,108 +33,63 @@ impl<'a, T: Copy> BoundedStack<'a, T> {
 
     /// Puts `x` on top, and says whether there was room for it.
     pub fn push(&mut self, x: T) -> bool
-        ensures lender { self.new.items.ghost_name ≡ self.old.items.ghost_name }
-        ensures places { room self.new ≡ room self.old }
+        ensures area { SameArea self.old self.new }
         ensures answer { result ≡ nat_lt (length (live self.old)) (room self.old) }
         ensures held { live self.new ≡ (if result then live self.old ++ x ∷ [] else live self.old) }
     {
         if self.is_full() {
             return false;
         }
-        self.grow(x);
+        self.items[self.count] = x;
+        self.count += 1;
         true
     }
 
     /// Takes the top element off, if there is one.
+    #[tactic(auto, using(crate::proofs::Lengths::live_length, crate::proofs::Lengths::top_take, crate::proofs::Lengths::below_top_take))]
     pub fn pop(&mut self) -> Option<T>
-        ensures lender { self.new.items.ghost_name ≡ self.old.items.ghost_name }
-        ensures places { room self.new ≡ room self.old }
+        ensures area { SameArea self.old self.new }
         ensures answer { result ≡ top (live self.old) }
         ensures held { live self.new ≡ below_top (live self.old) }
     {
         if self.len() == 0 {
             return None;
         }
-        Some(self.shrink())
+        self.count -= 1;
+        Some(self.items[self.count])
     }
 
     /// The element at place `i`, counted from the bottom, if there is one.
     pub fn get(&self, i: usize) -> Option<T>
         ensures { result ≡ slice_get (live self.now) i }
     {
-        element(self.elements(), i)
+        self.elements().get(i).copied()
     }
 
     /// Puts `x` in place of the element at place `i`, and says whether there was one.
+    #[tactic(auto, using(crate::proofs::Lengths::set_live))]
     pub fn set(&mut self, i: usize, x: T) -> bool
-        ensures lender { self.new.items.ghost_name ≡ self.old.items.ghost_name }
-        ensures places { room self.new ≡ room self.old }
+        ensures area { SameArea self.old self.new }
         ensures answer { result ≡ nat_lt i (length (live self.old)) }
         ensures held { live self.new ≡ (if result then slice_set (live self.old) i x else live self.old) }
     {
         if i >= self.len() {
             return false;
         }
-        self.replace(i, x);
+        self.items[i] = x;
         true
     }
 
-    // The live elements, as a slice.
-    fn elements(&self) -> &[T]
+    /// The elements as a slice, from the bottom up.
+    pub fn elements(&self) -> &[T]
         ensures { result.now ≡ live self.now }
     {
         let items: &[T] = self.items;
-        &items[0..self.count]
-    }
-
-    // Puts `x` on top of a stack that has room for it.
-    fn grow(&mut self, x: T)
-        requires { length (live self.old) < room self.old }
-        ensures lender { self.new.items.ghost_name ≡ self.old.items.ghost_name }
-        ensures places { room self.new ≡ room self.old }
-        ensures held { live self.new ≡ live self.old ++ x ∷ [] }
-    {
-        self.items[self.count] = x;
-        self.count += 1;
-    }
-
-    // Takes the top element off a stack that has one.
-    fn shrink(&mut self) -> T
-        requires { 0 < length (live self.old) }
-        ensures lender { self.new.items.ghost_name ≡ self.old.items.ghost_name }
-        ensures places { room self.new ≡ room self.old }
-        ensures answer { Some result ≡ top (live self.old) }
-        ensures held { live self.new ≡ below_top (live self.old) }
-    {
-        self.count -= 1;
-        self.items[self.count]
-    }
-
-    // Puts `x` in place of a live element.
-    fn replace(&mut self, i: usize, x: T)
-        requires { i < length (live self.old) }
-        ensures lender { self.new.items.ghost_name ≡ self.old.items.ghost_name }
-        ensures places { room self.new ≡ room self.old }
-        ensures held { live self.new ≡ slice_set (live self.old) i x }
-    {
-        self.items[i] = x;
-    }
-}
-
-// The element at place `i` of a slice, if there is one.
-fn element<T: Copy>(items: &[T], i: usize) -> Option<T>
-    ensures { result ≡ slice_get items.now i }
-{
-    if i < items.len() {
-        Some(items[i])
-    } else {
-        None
+        &items[..self.count]
     }
 }
 
 /// A theorem on what `push` and `pop` say they do: last in, first out, for elements of any type.
-pub fn last_in_first_out<T>() -> u8
+pub fn last_in_first_out<T>()
     ensures { LastInFirstOut T }
-{
-    0
-}
+{}

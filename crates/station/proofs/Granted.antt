@@ -5,6 +5,8 @@ use Rattle.sheet.specs.declared.row.Row.{Row}
 use Rattle.sheet.specs.Sheet.{Sheet, view}
 use Rattle.shaping.specs.Meaning.{IsShaped}
 use Rattle.evaluation.specs.Evaluation.{most_pending, most_bindings, most_fresh}
+use Rattle.machine.specs.declared.areas.WorkAreas as areas_lent
+use Rattle.evaluator.specs.Runs.{HasRoom}
 use Rattle.evaluator.proofs.Shaped.{few_sites}
 use Rattle.station.specs.declared.question.Question.{Question}
 use Rattle.station.specs.declared.question.Question.TheVariants.{ChannelArea, Target, Seat, Fuel, WorkAreas}
@@ -32,13 +34,6 @@ room_when_granted S len granted = let t = tested (leb S.sites len) granted in gr
     tested true h = refl
     tested false h = h
 
--- and so has a table with the sheet's rows and its count of sites
-pub room_for_sites : (rs sheet : List Row) (sites len : ℕ) → rs ≡ sheet → sites ≡ (view rs).sites → passed (opening_verdict (view sheet) len) ≡ true → sites ≤ len
-room_for_sites rs sheet sites len same count granted =
-    let room = room_when_granted (view sheet) len granted in
-    let s : (view rs).sites ≡ (view sheet).sites = ap (λ (l : List Row). (view l).sites) same in
-    omega arith
-
 module _ (S : Sheet) where
   -- a granted call on a channel: the area has a place for it
   pub channel_within : (len seat c : ℕ) → Ok tt ≡ verdict (first_refused (channel_questions S len seat c)) → c < len
@@ -64,12 +59,12 @@ module _ (S : Sheet) where
       let long = area.0 in
       (grind (arith, nat_tests), (grind (arith, nat_tests), (grind (arith, nat_tests), grind (arith, nat_tests))))
 
--- a granted run of a shaped sheet has what the evaluator needs
-pub granted_areas : {A B C D : Type 0} (rs : List Row) (seat e fuel : ℕ) (ks : List A) (ps : List B) (bs : List C) (hs : List D) → IsShaped rs
-    → Ok tt ≡ verdict (first_refused (run_questions (view rs) (length ks) seat e fuel (length ps) (length bs) (length hs)))
-    → ((view rs).sites ≤ length ks) × ((most_pending ≤ length ps) × ((most_bindings ≤ length bs) × ((view rs).sites + most_fresh ≤ length hs)))
-granted_areas rs seat e fuel ks ps bs hs shaped all-yes =
-    let a = areas_suffice (view rs) (length ks) seat e fuel (length ps) (length bs) (length hs) all-yes in
+-- a granted run of a shaped sheet has the places that the evaluator needs
+pub granted_areas : {K : Type 0} (rs : List Row) (len seat e fuel : ℕ) (areas : areas_lent.WorkAreas K) → IsShaped rs
+    → Ok tt ≡ verdict (first_refused (run_questions (view rs) len seat e fuel (length areas.pending.now) (length areas.bound.now) (length areas.held.now)))
+    → HasRoom (view rs) areas
+granted_areas rs len seat e fuel areas shaped all-yes =
+    let a = areas_suffice (view rs) len seat e fuel (length areas.pending.now) (length areas.bound.now) (length areas.held.now) all-yes in
     let few = few_sites rs shaped in
     let long = a.1.1.1 in
-    (a.0, (a.1.0, (a.1.1.0, omega arith)))
+    record { pending = a.1.0; bound = a.1.1.0; held = omega arith }

@@ -16,7 +16,7 @@ module _ {K : Type 0} (M : NumberKind) (S : Sheet) (n : K → M.Value) (ks : Lis
       sym (take-map n (sites - 0) ks) ∙ ap (λ (x : ℕ). take x (map n ks)) whole
 
   -- the extra places
-  rest : map n (post_of 0 (sites - 0) ks) ≡ drop S.sites (map n ks)
+  pub rest : map n (post_of 0 (sites - 0) ks) ≡ drop S.sites (map n ks)
   rest =
       let whole : sites - 0 ≡ S.sites = omega arith in
       sym (drop-map n (sites - 0) ks) ∙ ap (λ (x : ℕ). drop x (map n ks)) whole

@@ -1,11 +1,12 @@
 -- What the code asks and answers, with each number by its value.
-use Rattle.std.specs.Prelude.{◌≡◌, ℕ, Bool, true, false, [], ◌∷◌, Some, None, Option, Ok, Err, Result}
+use Rattle.std.specs.Prelude.{◌≡◌, ℕ, Bool, true, false, [], ◌∷◌, Some, None, Option, Ok, Err, Result, length}
 use Rattle.sheet.specs.Sheet.{Sheet}
+use Rattle.machine.specs.declared.areas.WorkAreas.{WorkAreas}
 use Rattle.evaluator.specs.declared.report.Report.{Report}
 use Rattle.evaluator.specs.Runs.{reported}
 use Rattle.station.specs.declared.question.Question.{Question}
 use Rattle.station.specs.declared.question.Question.TheVariants.{ChannelArea}
-use Rattle.station.specs.Calls.{Answer, refused, granted, told, ended, first_refused, roomy}
+use Rattle.station.specs.Calls.{Call, run_entry, Answer, refused, granted, told, ended, first_refused, roomy}
 
 -- the verdict, from the first question that is refused: yes, or that question
 abbrev pub verdict : Option Question → Result (Unit {0}) Question
@@ -39,6 +40,11 @@ module _ {V : Type 0} where
     abbrev pub ran : Result (Report K) Question → Answer V
     ran (Ok r) = ended (reported n r)
     ran (Err q) = refused q
+
+-- the call of a run over these work areas: of them it has the lengths
+abbrev pub run_over : {K V : Type 0} → (seat entry fuel : ℕ) → WorkAreas K → Call V
+run_over seat entry fuel areas =
+    run_entry seat entry fuel (length areas.pending.now) (length areas.bound.now) (length areas.held.now)
 
 -- a refusal leaves the area as it was
 abbrev pub LeftAlone : {A B : Type 0} → Result A Question → B → B → Type 0

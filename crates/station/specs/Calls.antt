@@ -1,7 +1,7 @@
 -- What a seat may call, and what each call answers and leaves in the channel area.
 use Rattle.std.specs.Prelude.{ℕ, Bool, cond, ◌&&◌, List, [], ◌∷◌, ◌++◌, length, take, drop, replicate, pos, Some, None, Option, ◌==◌, nat_le, nat_lt, slice_index_or, slice_set}
 use Rattle.number.specs.NumberKind.{NumberKind}
-use Rattle.sheet.specs.Sheet.{Sheet}
+use Rattle.sheet.specs.Sheet.{Sheet, is_channel as has_channel}
 use Rattle.evaluation.specs.Runs.{Report, run, run_report, numbers_after}
 use Rattle.station.specs.declared.question.Question.{Question}
 use Rattle.station.specs.declared.question.Question.TheVariants.{ChannelArea, Target, Seat, Fuel, WorkAreas}
@@ -47,7 +47,7 @@ module _ (S : Sheet) where
 
   -- c is a channel: a site that is not a fresh one
   abbrev pub is_channel : ℕ → Bool
-  is_channel c = nat_lt c S.sites && (S.site c).flag == 1
+  is_channel c = nat_lt c S.sites && has_channel (S.site c).flag
 
   -- what is asked of a seat that posts to a channel or reads it, where the area has so many places
   abbrev pub channel_questions : (len seat c : ℕ) → List (Question × Bool)

@@ -1,4 +1,5 @@
 pub mod Calls
 pub mod Histories
 pub mod Answered
+pub mod Stations
 pub mod Promise

@@ -1,6 +1,6 @@
 use super::play::{Scenario, play};
 use evaluator::Report;
-use machine::{Binding, Cell, Frame, Stage, Value};
+use machine::{Binding, Cell, Frame, Stage, Value, WorkAreas};
 use number::Millimetres;
 use station::{Question, Station};
 use std::process::Abort;
@@ -47,33 +47,30 @@ fn number_of(answer: Result<Report<Millimetres>, Question>) -> u8 {
 fn refuse(
     rt: &impl Abort,
     station: &mut Station<Millimetres>,
-    pending: &mut [Frame<Millimetres>],
-    bound: &mut [Binding<Millimetres>],
-    held: &mut [Cell<Millimetres>],
+    areas: &mut WorkAreas<Millimetres>,
 ) -> Result<(), Fail> {
-    assert_eq!(rt; number_of(station.run(1, 2, 100, pending, bound, held)), 42);
-    assert_eq!(rt; number_of(station.run(2, 0, 100, pending, bound, held)), 43);
-    assert_eq!(rt; number_of(station.run(1, 0, 0, pending, bound, held)), 44);
-    let few = held.len().min(543);
-    let answer = station.run(1, 0, 100, pending, bound, &mut held[0..few]);
-    assert_eq!(rt; number_of(answer), 45);
+    assert_eq!(rt; number_of(station.run(1, 2, 100, areas)), 42);
+    assert_eq!(rt; number_of(station.run(2, 0, 100, areas)), 43);
+    assert_eq!(rt; number_of(station.run(1, 0, 0, areas)), 44);
+    let few = areas.held.len().min(543);
+    let mut short = WorkAreas {
+        pending: &mut *areas.pending,
+        bound: &mut *areas.bound,
+        held: &mut areas.held[0..few],
+    };
+    assert_eq!(rt; number_of(station.run(1, 0, 100, &mut short)), 45);
     Ok(())
 }
 
 // Every place has its mark still.
-fn marked(
-    rt: &impl Abort,
-    pending: &[Frame<Millimetres>],
-    bound: &[Binding<Millimetres>],
-    held: &[Cell<Millimetres>],
-) -> Result<(), Fail> {
-    for frame in pending {
+fn marked(rt: &impl Abort, areas: &WorkAreas<Millimetres>) -> Result<(), Fail> {
+    for frame in areas.pending.iter() {
         assert_eq!(rt; frame.node, 77);
     }
-    for binding in bound {
+    for binding in areas.bound.iter() {
         assert_eq!(rt; binding.function, 77);
     }
-    for cell in held {
+    for cell in areas.held.iter() {
         assert_eq!(rt; cell.site, 77);
     }
     Ok(())
@@ -94,8 +91,13 @@ impl Scenario for RefusedRuns {
             outer: 77,
         }; 1024];
         let mut held = [Cell { site: 77, value }; 544];
-        refuse(rt, station, &mut pending, &mut bound, &mut held)?;
-        marked(rt, &pending, &bound, &held)
+        let mut areas = WorkAreas {
+            pending: &mut pending,
+            bound: &mut bound,
+            held: &mut held,
+        };
+        refuse(rt, station, &mut areas)?;
+        marked(rt, &areas)
     }
 }
 

@@ -1,7 +1,7 @@
 // Plays a script of calls over a station, and holds each answer to the one expected.
 use admission::{admit, check as check_admission};
 use evaluator::Report;
-use machine::{Binding, Cell, Frame, Stage, Value};
+use machine::{Binding, Cell, Frame, Stage, Value, WorkAreas};
 use number::Millimetres;
 use policy::PairList;
 use shaping::Draft;
@@ -80,9 +80,7 @@ fn ran(answer: Result<Report<Millimetres>, Question>) -> Told {
 fn made(
     station: &mut Station<Millimetres>,
     call: Call,
-    pending: &mut [Frame<Millimetres>],
-    bound: &mut [Binding<Millimetres>],
-    held: &mut [Cell<Millimetres>],
+    areas: &mut WorkAreas<Millimetres>,
 ) -> Told {
     match call {
         Call::Post(seat, channel, count) => {
@@ -96,16 +94,15 @@ fn made(
             Err(question) => refused(question),
         },
         Call::Run(seat, entry, fuel, (p, b, c)) => {
-            let (p, b) = (p.min(pending.len()), b.min(bound.len()));
-            let c = c.min(held.len());
-            ran(station.run(
-                seat,
-                entry,
-                fuel,
-                &mut pending[0..p],
-                &mut bound[0..b],
-                &mut held[0..c],
-            ))
+            let p = p.min(areas.pending.len());
+            let b = b.min(areas.bound.len());
+            let c = c.min(areas.held.len());
+            let mut lent = WorkAreas {
+                pending: &mut areas.pending[0..p],
+                bound: &mut areas.bound[0..b],
+                held: &mut areas.held[0..c],
+            };
+            ran(station.run(seat, entry, fuel, &mut lent))
         }
     }
 }
@@ -115,12 +112,10 @@ fn walk(
     rt: &impl Abort,
     station: &mut Station<Millimetres>,
     calls: &[(Call, Told)],
-    pending: &mut [Frame<Millimetres>],
-    bound: &mut [Binding<Millimetres>],
-    held: &mut [Cell<Millimetres>],
+    areas: &mut WorkAreas<Millimetres>,
 ) -> Result<(), Fail> {
     for (call, told) in calls {
-        let answer = made(station, *call, pending, bound, held);
+        let answer = made(station, *call, areas);
         assert_eq!(rt; answer.0, told.0);
         assert_eq!(rt; answer.1, told.1);
         assert_eq!(rt; answer.2, told.2);
@@ -154,7 +149,12 @@ impl Scenario for Script<'_> {
             outer: 0,
         }; 1030];
         let mut held = [Cell { site: 0, value }; 550];
-        walk(rt, station, self.calls, &mut pending, &mut bound, &mut held)
+        let mut areas = WorkAreas {
+            pending: &mut pending,
+            bound: &mut bound,
+            held: &mut held,
+        };
+        walk(rt, station, self.calls, &mut areas)
     }
 }
 

@@ -4,8 +4,8 @@ use Rattle.std.proofs.lemmas.Bool.{true≢false, and_parts, and_from}
 use Rattle.sheet.specs.declared.decoded.TypeRow.{TypeRow}
 use Rattle.sheet.specs.declared.decoded.Form.{Form}
 use Rattle.sheet.specs.declared.decoded.Form.TheVariants as form
-use Rattle.sheet.specs.Sheet.{Sheet}
-use Rattle.typing.specs.Fitting.{is_number, is_function, is_reference, is_unknown, parts_fit, row_fits, raised, fit, raised_fit}
+use Rattle.sheet.specs.Sheet.{Sheet, is_number, is_function, is_reference, is_unknown}
+use Rattle.typing.specs.Fitting.{parts_fit, row_fits, raised, fit, raised_fit}
 use Rattle.typing.specs.Rules.{Within, Fits, Fit, Raised}
 use Rattle.typing.specs.Meaning.{Iff, FitsExactly, FitsTransitive}
 use Rattle.typing.proofs.Sets.{within_is, union_within}

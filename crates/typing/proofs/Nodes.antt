@@ -1,13 +1,13 @@
 -- The tests of questions 34 and 35 say what the type rule and the control rule are.
-use Rattle.std.proofs.Common.{◌≡◌, ℕ, ◌<◌, Bool, true, false, not, ◌||◌, refl, arith}
+use Rattle.std.proofs.Common.{◌≡◌, ℕ, ◌<◌, Bool, true, false, not, ◌||◌, refl, ap, arith}
 use lib.Bits.{bit_or}
-use Rattle.std.proofs.lemmas.Bool.{and_parts, and_from, eq-eqb}
+use Rattle.std.proofs.lemmas.Bool.{and_parts, and_from}
 use Rattle.sheet.specs.declared.decoded.Kind.{Kind}
 use Rattle.sheet.specs.declared.decoded.Kind.TheVariants.{Literal, Variable, Lambda, Application, New, Channel, Read, Write, Choice, Operation, Unknown}
 use Rattle.sheet.specs.declared.decoded.Form.TheVariants as form
 use Rattle.sheet.specs.Asked.{every}
 use Rattle.sheet.specs.Sets.{has}
-use Rattle.sheet.specs.Sheet.{Sheet, part}
+use Rattle.sheet.specs.Sheet.{Sheet, is_fresh, is_channel, part}
 use Rattle.sheet.proofs.Asking.{every_means, every_from}
 use Rattle.typing.specs.Fitting.{raised_fit}
 use Rattle.typing.specs.Tests.{typed_by, controlled_by, reads_site, writes_site, under_two, node_type}
@@ -114,8 +114,8 @@ module _ (S : Sheet) where
         (and_from _ _ ((fit_is S _ _).1 r.1)
         (and_from _ _ ((within_is _ _).1 r.2) (and_from _ _ ((within_is _ _).1 r.3) ((raised_fit_is S _ _ _).1 r.4))))
     typed_passes New e r =
-        and_from _ _ (and_from _ _ ((reference_is _).1 r.0) (eq-eqb _ 0 (ok.fresh i l e))) (and_from _ _ r.1 ((raised_fit_is S _ _ _).1 r.2))
-    typed_passes Channel e r = and_from _ _ (and_from _ _ ((reference_is _).1 r.0) (eq-eqb _ 1 (ok.channel i l e))) r.1
+        and_from _ _ (and_from _ _ ((reference_is _).1 r.0) (ap is_fresh (ok.fresh i l e))) (and_from _ _ r.1 ((raised_fit_is S _ _ _).1 r.2))
+    typed_passes Channel e r = and_from _ _ (and_from _ _ ((reference_is _).1 r.0) (ap is_channel (ok.channel i l e))) r.1
     typed_passes Read e r = and_from _ _ ((reference_is _).1 r.0) ((reading r.0).1 r.1)
     typed_passes Write e r =
         and_from _ _ ((reference_is _).1 r.0) (and_from _ _ ((writing r.0).1 r.1) ((fit_is S _ _).1 r.2))

@@ -1,38 +1,10 @@
 -- When one type fits another, as a test.
-use Rattle.std.specs.Prelude.{ℕ, zero, suc, Bool, true, false, ◌&&◌, bit_or}
+use Rattle.std.specs.Prelude.{ℕ, zero, suc, Bool, false, ◌&&◌, bit_or}
 use Rattle.sheet.specs.declared.decoded.TypeRow.{TypeRow}
 use Rattle.sheet.specs.declared.decoded.Form.{Form}
 use Rattle.sheet.specs.declared.decoded.Form.TheVariants.{Number, Function, Reference, Unknown}
 use Rattle.sheet.specs.Sets.{within}
-use Rattle.sheet.specs.Sheet.{Sheet}
-
--- the form is a number's
-abbrev pub is_number : Form → Bool
-is_number Number = true
-is_number Function = false
-is_number Reference = false
-is_number Unknown = false
-
--- the form is a function's
-abbrev pub is_function : Form → Bool
-is_function Number = false
-is_function Function = true
-is_function Reference = false
-is_function Unknown = false
-
--- the form is a reference's
-abbrev pub is_reference : Form → Bool
-is_reference Number = false
-is_reference Function = false
-is_reference Reference = true
-is_reference Unknown = false
-
--- the form is not known
-abbrev pub is_unknown : Form → Bool
-is_unknown Number = false
-is_unknown Function = false
-is_unknown Reference = false
-is_unknown Unknown = true
+use Rattle.sheet.specs.Sheet.{Sheet, is_number, is_function, is_reference, is_unknown}
 
 -- types x and y, of which x has the form given, have the same form, and what that form adds fits: of references x's sites are
 -- within y's; of functions y's argument fits x's, x's result fits y's, and y's effect is within x's

@@ -2,6 +2,7 @@
 use Rattle.std.specs.Prelude.{◌≡◌, ℕ, ◌<◌, true}
 use Rattle.sheet.specs.declared.decoded.Form.TheVariants as form
 use Rattle.sheet.specs.declared.decoded.Kind.TheVariants as kind
+use Rattle.sheet.specs.declared.decoded.Flag.TheVariants as flag
 use Rattle.sheet.specs.Sets.{has}
 use Rattle.sheet.specs.Sheet.{Sheet}
 use Rattle.typing.specs.Fitting.{fit, raised_fit}
@@ -24,8 +25,8 @@ FitsTransitive = (S : Sheet) (X Y Z : ℕ) → Fit S X Y → Fit S Y Z → Fit S
 -- references name sites that exist, new nodes fresh sites, and channel nodes channels
 pub record NamesSites (S : Sheet) : Type 0 where
   pub references : (i s : ℕ) → i < S.nodes → form_at S i ≡ form.Reference → has s (sites_at S i) ≡ true → s < S.sites
-  pub fresh : (i : ℕ) → i < S.nodes → (S.node i).kind ≡ kind.New → (S.site (S.node i).argument).flag ≡ 0
-  pub channel : (i : ℕ) → i < S.nodes → (S.node i).kind ≡ kind.Channel → (S.site (S.node i).argument).flag ≡ 1
+  pub fresh : (i : ℕ) → i < S.nodes → (S.node i).kind ≡ kind.New → (S.site (S.node i).argument).flag ≡ flag.Fresh
+  pub channel : (i : ℕ) → i < S.nodes → (S.node i).kind ≡ kind.Channel → (S.site (S.node i).argument).flag ≡ flag.Channel
 
 -- the tests of questions 34 and 35 say what the type rule and the control rule are
 abbrev pub RulesExactly : Type 0

@@ -1,13 +1,13 @@
 -- Questions 34 and 35: the type rule and the control rule of a node, as tests.
-use Rattle.std.specs.Prelude.{ℕ, Bool, true, false, not, ◌&&◌, ◌||◌, ◌==◌, bit_or}
+use Rattle.std.specs.Prelude.{ℕ, Bool, true, false, not, ◌&&◌, ◌||◌, bit_or}
 use Rattle.sheet.specs.declared.decoded.NodeRow.{NodeRow}
 use Rattle.sheet.specs.declared.decoded.TypeRow.{TypeRow}
 use Rattle.sheet.specs.declared.decoded.Kind.{Kind}
 use Rattle.sheet.specs.declared.decoded.Kind.TheVariants.{Literal, Variable, Lambda, Application, New, Channel, Read, Write, Choice, Operation, Unknown}
 use Rattle.sheet.specs.Asked.{every}
 use Rattle.sheet.specs.Sets.{has, within}
-use Rattle.sheet.specs.Sheet.{Sheet, part}
-use Rattle.typing.specs.Fitting.{is_number, is_function, is_reference, fit, raised_fit}
+use Rattle.sheet.specs.Sheet.{Sheet, is_number, is_function, is_reference, is_fresh, is_channel, part}
+use Rattle.typing.specs.Fitting.{fit, raised_fit}
 
 -- the type of node i
 abbrev pub node_type : Sheet → ℕ → TypeRow
@@ -56,10 +56,10 @@ typed_by S i x Lambda = is_function (S.type x.ty).form && fit S (S.node (part S 
 typed_by S i x Application =
     is_function (node_type S (part S i 1)).form && applies S (node_type S (part S i 1)) x (S.node (part S i 0)).ty
 typed_by S i x New =
-    (is_reference (S.type x.ty).form && (S.site x.argument).flag == 0)
+    (is_reference (S.type x.ty).form && is_fresh (S.site x.argument).flag)
     && creates S (S.type x.ty) x (S.node (part S i 0)).ty
 typed_by S i x Channel =
-    (is_reference (S.type x.ty).form && (S.site x.argument).flag == 1) && has x.argument (S.type x.ty).sites
+    (is_reference (S.type x.ty).form && is_channel (S.site x.argument).flag) && has x.argument (S.type x.ty).sites
 typed_by S i x Read = is_reference (node_type S (part S i 0)).form && reads S (node_type S (part S i 0)) x.ty
 typed_by S i x Write =
     is_reference (node_type S (part S i 1)).form && writes S (node_type S (part S i 1)) x (S.node (part S i 0)).ty

@@ -3,6 +3,5 @@
 
 mod clauses;
 pub mod fitting;
-pub mod forms;
 pub mod guarantees;
 pub mod rules;

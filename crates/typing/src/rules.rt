@@ -1,29 +1,29 @@
-// Questions 34 and 35: the type rule and the control rule of a node, by its kind.
+//! Questions 34 and 35: the type rule and the control rule of a node, by its kind.
 ghost use Rattle.std.specs.Prelude.{◌≡◌};
 ghost use Rattle.sheet.specs.Sheet.{view};
 ghost use Rattle.typing.specs.Tests.{node_type, typed, typed_by, controlled, controlled_by};
 
-use super::clauses::{applies, chooses, creates, operates, reads, under, under_two, writes};
-use super::fitting::fit;
-use super::forms::{is_function, is_number, is_reference};
+use super::clauses::{applies, chooses, operates, reads, under, under_two, writes};
+use super::fitting::{fit, raised_fit};
 use sheet::sets::has;
-use sheet::{Kind, NodeRow, Table, TypeRow};
+use sheet::{Flag, Form, Kind, NodeRow, Table, TypeRow};
 
-// The type of node i.
-pub fn node_type(table: Table, i: usize) -> TypeRow
-    ensures { result ≡ node_type (view table.entry.rows.now) i }
+/// The type of node i.
+pub fn node_type(table: &Table, i: usize) -> TypeRow
+    ensures { result ≡ node_type (view table.now.rows.now) i }
 {
     table.type_at(table.node_at(i).ty)
 }
 
 // The type rule of node i, whose row is x, by its kind. The last part ends just before the node, and
 // each other part just before the next one's first node.
-fn typed_by(table: Table, i: usize, x: NodeRow) -> bool
-    ensures { result ≡ typed_by (view table.entry.rows.now) i x x.kind }
+fn typed_by(table: &Table, i: usize, x: NodeRow) -> bool
+    ensures { result ≡ typed_by (view table.now.rows.now) i x x.kind }
 {
     let own = table.type_at(x.ty);
     let named = node_type(table, x.argument);
-    let flag = table.site_at(x.argument).flag;
+    let site = table.site_at(x.argument);
+    let named_by_own = has(x.argument, own.sites);
     let end = i.saturating_sub(1);
     let middle = table.part_before(end);
     let third = node_type(table, end);
@@ -31,25 +31,28 @@ fn typed_by(table: Table, i: usize, x: NodeRow) -> bool
     let second = node_type(table, middle);
     let first = node_type(table, table.part_before(middle));
     match x.kind {
-        Kind::Literal if is_number(own.form) => true,
-        Kind::Variable if is_function(named.form) => fit(table, named.argument, x.ty),
-        Kind::Lambda if is_function(own.form) => fit(table, value, own.result),
-        Kind::Application if is_function(second.form) => applies(table, second, x, value),
-        Kind::New if is_reference(own.form) && flag == 0 => creates(table, own, x, value),
-        Kind::Channel if is_reference(own.form) && flag == 1 => has(x.argument, own.sites),
-        Kind::Read if is_reference(third.form) => reads(table, third, x.ty),
-        Kind::Write if is_reference(second.form) => writes(table, second, x, value),
-        Kind::Choice if is_number(first.form) => {
+        Kind::Literal if own.form == Form::Number => true,
+        Kind::Variable if named.form == Form::Function => fit(table, named.argument, x.ty),
+        Kind::Lambda if own.form == Form::Function => fit(table, value, own.result),
+        Kind::Application if second.form == Form::Function => applies(table, second, x, value),
+        Kind::New if own.form == Form::Reference && site.flag == Flag::Fresh && named_by_own => {
+            raised_fit(table, value, x.control, site.content)
+        }
+        Kind::Channel
+            if own.form == Form::Reference && site.flag == Flag::Channel && named_by_own => { true }
+        Kind::Read if third.form == Form::Reference => reads(table, third, x.ty),
+        Kind::Write if second.form == Form::Reference => writes(table, second, x, value),
+        Kind::Choice if first.form == Form::Number => {
             chooses(table, first, x, table.node_at(middle).ty, value)
         }
-        Kind::Operation if is_number(second.form) => operates(second, third, own),
+        Kind::Operation if second.form == Form::Number => operates(second, third, own),
         _ => false,
     }
 }
 
 // The control rule of node i, whose row is x, by its kind.
-fn controlled_by(table: Table, i: usize, x: NodeRow) -> bool
-    ensures { result ≡ controlled_by (view table.entry.rows.now) i x x.kind }
+fn controlled_by(table: &Table, i: usize, x: NodeRow) -> bool
+    ensures { result ≡ controlled_by (view table.now.rows.now) i x x.kind }
 {
     let last = i.saturating_sub(1);
     match x.kind {
@@ -67,16 +70,16 @@ fn controlled_by(table: Table, i: usize, x: NodeRow) -> bool
     }
 }
 
-// Question 34: node i keeps its type rule.
-pub fn typed(table: Table, i: usize) -> bool
-    ensures { result ≡ typed (view table.entry.rows.now) i }
+/// Question 34: node i keeps its type rule.
+pub fn typed(table: &Table, i: usize) -> bool
+    ensures { result ≡ typed (view table.now.rows.now) i }
 {
     typed_by(table, i, table.node_at(i))
 }
 
-// Question 35: node i keeps its control rule.
-pub fn controlled(table: Table, i: usize) -> bool
-    ensures { result ≡ controlled (view table.entry.rows.now) i }
+/// Question 35: node i keeps its control rule.
+pub fn controlled(table: &Table, i: usize) -> bool
+    ensures { result ≡ controlled (view table.now.rows.now) i }
 {
     controlled_by(table, i, table.node_at(i))
 }

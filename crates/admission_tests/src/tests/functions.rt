@@ -23,13 +23,13 @@ fn variables(rt: HostRuntime) -> Result<(), Fail> {
         &rt,
         application(),
         &[
-            (5, 'N', 1, 1, 0, 2, 1, 0),
+            (5, ('N', 1, 1, 0, 2, 1), Ok(())),
             // the named node is no function
-            (6, 'N', 2, 2, 0, 2, 0, 34005),
+            (6, ('N', 2, 2, 0, 2, 0), Err((34, 5))),
             // its argument is a number, and the variable a reference
-            (5, 'N', 1, 1, 3, 2, 1, 34005),
+            (5, ('N', 1, 1, 3, 2, 1), Err((34, 5))),
             // its argument is 2's too, and the variable is not
-            (2, 'T', 1, 0, 1, 0, 2, 34005),
+            (2, ('T', 1, 0, 1, 0, 2), Err((34, 5))),
         ],
     )
 }
@@ -41,12 +41,12 @@ fn functions(rt: HostRuntime) -> Result<(), Fail> {
         application(),
         &[
             // the body is 2's too, and the result is not
-            (5, 'N', 1, 1, 1, 2, 1, 34006),
+            (5, ('N', 1, 1, 1, 2, 1), Err((34, 6))),
             // the body's control set has not the effect
-            (5, 'N', 1, 1, 0, 0, 1, 35006),
-            (2, 'T', 1, 0, 0, 0, 6, 35006),
+            (5, ('N', 1, 1, 0, 0, 1), Err((35, 6))),
+            (2, ('T', 1, 0, 0, 0, 6), Err((35, 6))),
             // the function's own control set is not asked of its body
-            (6, 'N', 2, 2, 2, 6, 0, 0),
+            (6, ('N', 2, 2, 2, 6, 0), Ok(())),
         ],
     )?;
     walk(
@@ -54,9 +54,9 @@ fn functions(rt: HostRuntime) -> Result<(), Fail> {
         application(),
         &[
             // a function of no variable
-            (5, 'N', 0, 1, 0, 2, 5, 0),
+            (5, ('N', 0, 1, 0, 2, 5), Ok(())),
             // its type is a number
-            (6, 'N', 2, 2, 0, 2, 0, 34006),
+            (6, ('N', 2, 2, 0, 2, 0), Err((34, 6))),
         ],
     )
 }
@@ -68,19 +68,19 @@ fn applications(rt: HostRuntime) -> Result<(), Fail> {
         application(),
         &[
             // the argument
-            (7, 'N', 0, 1, 1, 2, 5, 34008),
+            (7, ('N', 0, 1, 1, 2, 5), Err((34, 8))),
             // the function's set within its effect
-            (2, 'T', 1, 4, 0, 0, 2, 34008),
-            (2, 'T', 1, 2, 0, 0, 2, 0),
+            (2, ('T', 1, 4, 0, 0, 2), Err((34, 8))),
+            (2, ('T', 1, 2, 0, 0, 2), Ok(())),
             // the node's control set within the function's effect
-            (8, 'N', 3, 4, 0, 6, 0, 34008),
-            (2, 'T', 1, 0, 0, 0, 0, 34008),
+            (8, ('N', 3, 4, 0, 6, 0), Err((34, 8))),
+            (2, ('T', 1, 0, 0, 0, 0), Err((34, 8))),
             // the result
-            (2, 'T', 1, 0, 0, 1, 2, 34008),
-            (8, 'N', 3, 4, 3, 2, 0, 34008),
+            (2, ('T', 1, 0, 0, 1, 2), Err((34, 8))),
+            (8, ('N', 3, 4, 3, 2, 0), Err((34, 8))),
             // the parts' control sets
-            (6, 'N', 2, 2, 2, 0, 0, 35008),
-            (7, 'N', 0, 1, 0, 0, 5, 35008),
+            (6, ('N', 2, 2, 2, 0, 0), Err((35, 8))),
+            (7, ('N', 0, 1, 0, 0, 5), Err((35, 8))),
         ],
     )
 }
@@ -88,7 +88,11 @@ fn applications(rt: HostRuntime) -> Result<(), Fail> {
 // The argument is a reference.
 #[test]
 fn applied_to_reference(rt: HostRuntime) -> Result<(), Fail> {
-    run(&rt, application(), &[(7, 'N', 5, 1, 3, 2, 0, 34008)])
+    run(
+        &rt,
+        application(),
+        &[(7, ('N', 5, 1, 3, 2, 0), Err((34, 8)))],
+    )
 }
 
 #[test]
@@ -98,9 +102,9 @@ fn applied_number(rt: HostRuntime) -> Result<(), Fail> {
         application(),
         &[
             // the function gives a channel
-            (5, 'N', 5, 1, 3, 2, 0, 34006),
+            (5, ('N', 5, 1, 3, 2, 0), Err((34, 6))),
             // the channel is read, and the number applied
-            (6, 'N', 6, 2, 0, 2, 0, 34008),
+            (6, ('N', 6, 2, 0, 2, 0), Err((34, 8))),
         ],
     )
 }
@@ -112,11 +116,11 @@ fn function_set(rt: HostRuntime) -> Result<(), Fail> {
         &rt,
         application(),
         &[
-            (8, 'N', 3, 4, 1, 2, 0, 37009),
+            (8, ('N', 3, 4, 1, 2, 0), Err((37, 9))),
             // the function is 2's, and its effect is not: its result fits all the same
-            (2, 'T', 1, 4, 0, 0, 2, 34008),
-            (2, 'T', 1, 4, 0, 0, 6, 35006),
-            (5, 'N', 1, 1, 0, 6, 1, 37009),
+            (2, ('T', 1, 4, 0, 0, 2), Err((34, 8))),
+            (2, ('T', 1, 4, 0, 0, 6), Err((35, 6))),
+            (5, ('N', 1, 1, 0, 6, 1), Err((37, 9))),
         ],
     )
 }
@@ -128,10 +132,10 @@ fn raised_result(rt: HostRuntime) -> Result<(), Fail> {
         &rt,
         application(),
         &[
-            (2, 'T', 1, 1, 0, 0, 3, 35006),
-            (5, 'N', 1, 1, 0, 3, 1, 34008),
-            (1, 'T', 0, 3, 0, 0, 0, 34008),
-            (8, 'N', 3, 4, 1, 2, 0, 0),
+            (2, ('T', 1, 1, 0, 0, 3), Err((35, 6))),
+            (5, ('N', 1, 1, 0, 3, 1), Err((34, 8))),
+            (1, ('T', 0, 3, 0, 0, 0), Err((34, 8))),
+            (8, ('N', 3, 4, 1, 2, 0), Ok(())),
         ],
     )
 }

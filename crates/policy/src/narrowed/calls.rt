@@ -1,14 +1,14 @@
 ghost use Rattle.std.specs.Prelude.{◌≡◌, ℕ, ◌<◌, false, MatchResult, ◌≢◌};
 ghost use Rattle.policy.specs.Narrowing.{Revokes, inner_of, narrowed_flows, narrowed_size, revoked_of, taken_of};
 ghost use Rattle.policy.specs.Refusals.{revoke_answer};
-ghost use Rattle.std.proofs.Common.{rules, arith};
+ghost use Rattle.std.proofs.Common.{rules};
 
-use super::super::pair_set::PairSet;
-use super::super::{Policy, Refusal};
 use super::Narrowed;
+use crate::pair_set::PairSet;
+use crate::{Policy, Refusal, check_label};
 
 impl<P: Policy> Narrowed<P> {
-    // The inner policy, with no pair revoked yet.
+    /// The inner policy, with no pair revoked yet.
     pub fn new(inner: P) -> Narrowed<P>
         ensures inner { inner_of result ≡ inner }
         ensures size { narrowed_size P.Policy.size result ≡ P.Policy.size inner }
@@ -23,16 +23,15 @@ impl<P: Policy> Narrowed<P> {
         }
     }
 
-    // From here on a may not flow to b.
+    /// From here on a may not flow to b.
     pub fn revoke(&mut self, a: u32, b: u32) -> Result<(), Refusal>
         ensures answer { result ≡ revoke_answer (narrowed_size P.Policy.size self.old) (taken_of self.old) (revoked_of self.old a b) a b }
         ensures size { narrowed_size P.Policy.size self.new ≡ narrowed_size P.Policy.size self.old }
         ensures change { MatchResult result (λ _. Revokes P.Policy.flows self.old self.new a b) (λ _. self.new ≡ self.old) }
     {
         let n = self.inner.labels();
-        if a >= n || b >= n {
-            return Err(Refusal::UnknownLabel);
-        }
+        check_label(a, n)?;
+        check_label(b, n)?;
         if a == b {
             return Err(Refusal::ReflexivePair);
         }
@@ -64,13 +63,13 @@ impl<P: Policy> Policy for Narrowed<P> {
 
     ghost flows = { narrowed_flows P.Policy.flows };
 
-    ghost counted = { first_of (Prim.search rules, Prim.grind (arith, Self.row.coded.inj)) };
+    ghost counted = { Prim.search rules };
 
-    ghost reflexive = { first_of (Prim.search rules, Prim.grind (arith, Self.row.coded.inj)) };
+    ghost reflexive = { Prim.search rules };
 
-    ghost sources = { first_of (Prim.search rules, Prim.grind (arith, Self.row.coded.inj)) };
+    ghost sources = { Prim.search rules };
 
-    ghost targets = { first_of (Prim.search rules, Prim.grind (arith, Self.row.coded.inj)) };
+    ghost targets = { Prim.search rules };
 
     fn labels(&self) -> u32 {
         self.inner.labels()

@@ -6,18 +6,18 @@ fn order(rt: HostRuntime) {
     run(
         &rt,
         &[
-            (0, 'X', 0, 6, 0, 0, 0, 21000),
-            (2, 't', 2, 0, 1, 0, 0, 21002),
-            (3, '\0', 2, 0, 2, 0, 0, 21003),
-            (10, 'Ε', 1, 3, 0, 0, 0, 21010),
-            (0, 'S', 0, 6, 0, 0, 0, 21001),
-            (4, 'N', 1, 1, 1, 0, 0, 21005),
-            (6, 'E', 5, 1, 3, 2, 1, 21007),
-            (10, 'T', 1, 3, 0, 0, 0, 21010),
+            (0, ('X', 0, 6, 0, 0, 0), Err((21, 0))),
+            (2, ('t', 2, 0, 1, 0, 0), Err((21, 2))),
+            (3, ('\0', 2, 0, 2, 0, 0), Err((21, 3))),
+            (10, ('Ε', 1, 3, 0, 0, 0), Err((21, 10))),
+            (0, ('S', 0, 6, 0, 0, 0), Err((21, 1))),
+            (4, ('N', 1, 1, 1, 0, 0), Err((21, 5))),
+            (6, ('E', 5, 1, 3, 2, 1), Err((21, 7))),
+            (10, ('T', 1, 3, 0, 0, 0), Err((21, 10))),
             // In order: 22 and 23 have the word.
-            (10, 'N', 1, 3, 0, 0, 0, 22000),
-            (5, 'N', 2, 0, 1, 0, 0, 23003),
-            (4, 'T', 1, 1, 1, 0, 0, 23003),
+            (10, ('N', 1, 3, 0, 0, 0), Err((22, 0))),
+            (5, ('N', 2, 0, 1, 0, 0), Err((23, 3))),
+            (4, ('T', 1, 1, 1, 0, 0), Err((23, 3))),
         ],
     );
 }
@@ -49,7 +49,7 @@ fn plain(heap: Global, types: i64, sites: i64, nodes: i64, entries: i64) -> Resu
     Ok(rows)
 }
 
-fn limits(heap: Global, types: i64, sites: i64, nodes: i64, entries: i64) -> Result<usize, Fail> {
+fn limits(heap: Global, types: i64, sites: i64, nodes: i64, entries: i64) -> Result<Verdict, Fail> {
     let rows = plain(heap, types, sites, nodes, entries)?;
     Ok(verdict(&rows))
 }
@@ -57,25 +57,25 @@ fn limits(heap: Global, types: i64, sites: i64, nodes: i64, entries: i64) -> Res
 #[test]
 fn no_rows(rt: HostRuntime) {
     let rows: [Row; 0] = [];
-    assert_eq!(rt; verdict(&rows), 22000);
+    assert_eq!(rt; verdict(&rows), Err((22, 0)));
 }
 
 #[test]
 fn counts(rt: HostRuntime) -> Result<(), Fail> {
     let heap = rt.alloc();
-    assert_eq!(rt; limits(heap, 1, 1, 1, 1)?, 0);
-    assert_eq!(rt; limits(heap, 0, 1, 1, 1)?, 22000);
-    assert_eq!(rt; limits(heap, 1, 0, 1, 1)?, 22000);
-    assert_eq!(rt; limits(heap, 1, 1, 0, 1)?, 22000);
-    assert_eq!(rt; limits(heap, 1, 1, 1, 0)?, 22000);
-    assert_eq!(rt; limits(heap, 128, 1, 1, 1)?, 0);
-    assert_eq!(rt; limits(heap, 129, 1, 1, 1)?, 22000);
-    assert_eq!(rt; limits(heap, 1, 32, 1, 1)?, 0);
-    assert_eq!(rt; limits(heap, 1, 33, 1, 1)?, 22000);
-    assert_eq!(rt; limits(heap, 1, 1, 512, 1)?, 0);
-    assert_eq!(rt; limits(heap, 1, 1, 513, 1)?, 22000);
-    assert_eq!(rt; limits(heap, 1, 1, 32, 32)?, 0);
-    assert_eq!(rt; limits(heap, 1, 1, 33, 33)?, 22000);
-    assert_eq!(rt; limits(heap, 128, 32, 512, 32)?, 0);
+    assert_eq!(rt; limits(heap, 1, 1, 1, 1)?, Ok(()));
+    assert_eq!(rt; limits(heap, 0, 1, 1, 1)?, Err((22, 0)));
+    assert_eq!(rt; limits(heap, 1, 0, 1, 1)?, Err((22, 0)));
+    assert_eq!(rt; limits(heap, 1, 1, 0, 1)?, Err((22, 0)));
+    assert_eq!(rt; limits(heap, 1, 1, 1, 0)?, Err((22, 0)));
+    assert_eq!(rt; limits(heap, 128, 1, 1, 1)?, Ok(()));
+    assert_eq!(rt; limits(heap, 129, 1, 1, 1)?, Err((22, 0)));
+    assert_eq!(rt; limits(heap, 1, 32, 1, 1)?, Ok(()));
+    assert_eq!(rt; limits(heap, 1, 33, 1, 1)?, Err((22, 0)));
+    assert_eq!(rt; limits(heap, 1, 1, 512, 1)?, Ok(()));
+    assert_eq!(rt; limits(heap, 1, 1, 513, 1)?, Err((22, 0)));
+    assert_eq!(rt; limits(heap, 1, 1, 32, 32)?, Ok(()));
+    assert_eq!(rt; limits(heap, 1, 1, 33, 33)?, Err((22, 0)));
+    assert_eq!(rt; limits(heap, 128, 32, 512, 32)?, Ok(()));
     Ok(())
 }

@@ -1,43 +1,27 @@
 ghost use Rattle.std.specs.Prelude.{◌≡◌, ◌+◌, ◌^◌, ◌<◌, length};
-ghost use Rattle.sheet_text.specs.declared.reader.NextRow.TheVariants.{Misquoted};
+ghost use Rattle.sheet_text.specs.declared.reader.Misquoted.{Misquoted};
 ghost use Rattle.sheet_text.specs.Symbols.{symbols};
 ghost use Rattle.sheet_text.specs.Grammar.{rows};
-ghost use Rattle.sheet_text.specs.Lines.{raw};
 ghost use Rattle.sheet_text.specs.Rows.{rows_from, next as what_comes, after, rows_read, RowRead};
 
-use super::{NextRow, Reader};
-use crate::field::Field;
+use super::{Misquoted, Reader};
 use crate::line::Line;
 use crate::scan::{Mark, next_field};
 
-// The bytes of a field.
-fn bytes_of<'a>(field: Field<'a>) -> &'a [u8]
-    ensures { result.now ≡ raw field.entry }
-{
-    match field {
-        Field::Bare { bytes, at: _ } => bytes,
-        Field::Quoted { bytes, at: _ } => bytes,
-    }
-}
-
-// Reads the fields of the row that begins at `start`: what they say, and where the next row begins;
-// nothing where their quoting is wrong.
-fn read_fields(input: &[u8], start: usize) -> Option<(Line, usize)>
+// Reads the fields of the row that begins at `start`: what they say, and where the next row begins.
+fn read_fields(input: &[u8], start: usize) -> Result<(Line, usize), Misquoted>
     requires { start < length input.now }
     ensures { RowRead input.now start result }
 {
     let mut line = Line::blank();
+    // a place and not a slice that gets shorter, since each field tells its place in the input
     let mut at = start;
     loop {
-        match next_field(&input[at..], at) {
-            None => return None,
-            Some(step) => {
-                line.take(bytes_of(step.field));
-                at += step.size;
-                if let Mark::RowEnd = step.mark {
-                    return Some((line, at));
-                }
-            }
+        let step = next_field(&input[at..], at).ok_or(Misquoted)?;
+        line.take(step.field.bytes());
+        at += step.size;
+        if let Mark::RowEnd = step.mark {
+            return Ok((line, at));
         }
     }
 }
@@ -62,24 +46,24 @@ impl<'a> Reader<'a> {
         self.row
     }
 
-    // Reads the next row. Where its quoting is wrong, the reader stays before it.
-    pub(crate) fn read_row(&mut self) -> NextRow
+    // Reads the next row. Where its quoting is wrong, the reader stays before it: it has no end that
+    // an `Iterator` could promise, since it gives that answer again at each call.
+    pub(crate) fn read_row(&mut self) -> Option<Result<Line, Misquoted>>
         ensures value { result ≡ what_comes (rows_from self.old) }
         ensures rest { rows_from self.new ≡ after (rows_from self.old) }
         ensures row { self.new.row ≡ self.old.row + rows_read result }
-        ensures room { result ≡ Misquoted → self.new.row + 1 < 2 ^ 64 }
+        ensures room { (m : Misquoted) → result ≡ Some (Err m) → self.new.row + 1 < 2 ^ 64 }
     {
-        let input = self.input;
-        if self.pos >= input.len() {
-            return NextRow::NoRow;
+        if self.pos >= self.input.len() {
+            return None;
         }
-        match read_fields(input, self.pos) {
-            None => NextRow::Misquoted,
-            Some((line, end)) => {
+        match read_fields(self.input, self.pos) {
+            Ok((line, end)) => {
                 self.pos = end;
                 self.row += 1;
-                NextRow::Fields(line)
+                Some(Ok(line))
             }
+            Err(misquoted) => Some(Err(misquoted)),
         }
     }
 }

@@ -1,8 +1,6 @@
-use Rattle.machine.proofs.Acts.{read_some, read_none}
+use Rattle.std.proofs.Common.{sym, ◌∙◌}
+use Rattle.machine.proofs.Acts.{read_some}
 use Rattle.machine.proofs.steps.read.Goals as goal
 
-pub returns-in-Some : goal.returns-in-Some
-returns-in-Some g c fs bs = read_some g.K.Number.value _ _ _ _ _ fs bs c.in-Reference.is c.in-Some.ensures
-
-pub returns-in-None : goal.returns-in-None
-returns-in-None g c fs bs = read_none g.K.Number.value _ _ _ _ fs bs c.in-Reference.is c.in-None.ensures
+pub returns : goal.returns
+returns g c fs bs = read_some g.K.Number.value _ _ _ _ _ fs bs c.in_ok-address.ensures (sym c.in_ok-cell.ensures.ok_part ∙ c.get.ensures)

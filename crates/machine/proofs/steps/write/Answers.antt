@@ -1,16 +1,7 @@
-use Rattle.std.proofs.Common.{refl}
-use Rattle.machine.proofs.Acts.{write_some, write_none}
+use Rattle.std.proofs.Common.{sym, ◌∙◌}
+use Rattle.machine.proofs.Acts.{write_some}
 use Rattle.machine.proofs.steps.write.Goals as goal
 
-pub returns-in-Some : goal.returns-in-Some
-returns-in-Some g c =
-    record {
-      places = c.set.ensures.places;
-      step =
-          λ fs bs.
-          write_some g.K.Number.value _ _ _ _ _ _ _ _ fs bs c.in-Reference.is c.in-Some.ensures c.set.ensures.answer c.set.ensures.held;
-    }
-
-pub returns-in-None : goal.returns-in-None
-returns-in-None g c =
-    record { places = refl; step = λ fs bs. write_none g.K.Number.value _ _ _ _ _ fs bs c.in-Reference.is c.in-None.ensures }
+pub returns-clause-step : goal.returns-clause-step
+returns-clause-step g c fs bs =
+    write_some g.K.Number.value _ _ _ _ _ _ _ _ fs bs c.in_ok-address.ensures (sym c.in_ok-cell.ensures.ok_part ∙ c.get.ensures) c.set.ensures.answer c.set.ensures.held

@@ -1,24 +1,20 @@
-use Rattle.std.proofs.Common.{◌≡◌, true, false, ℤ, pos, negsuc, nat_abs, sym, refl, ap, ◌∙◌, arith, w64}
-use lib.Signed.{lt_z}
+use Rattle.std.proofs.Common.{◌≡◌, ℕ, ℤ, pos, negsuc, nat_abs, Ok, Err, Result, SFits, w64, refl, ◌∙◌}
+use Rattle.std.proofs.Math.Facts.{Fits-nat_abs}
 use Rattle.std.proofs.lemmas.Int.{to_z-of_z}
-use Rattle.std.proofs.lemmas.Bool.{both_ways, ltb-true}
+use Rattle.std.specs.Int.{FitsUnsignedBits}
+use Rattle.std.specs.Result.{OkIff, result_unwrap_or}
 use Rattle.sheet.specs.Sheet.{natural}
 use Rattle.sheet.proofs.decode.natural_of.Goals as goal
 
-below : (z : ℤ) → lt_z z (pos 0) ≡ true → 9223372036854775808 ≡ natural z
+-- the number that was converted, or the one past every limit where that was below zero
+by_sign : {E : Type 0} (z : ℤ) (r : Result ℕ E) → SFits w64 z → OkIff r (FitsUnsignedBits 64 z) (nat_abs z) → result_unwrap_or r 9223372036854775808 ≡ natural z
 unfolding natural
-below (pos n) h = let z : ⊥ = omega (arith, ltb-true n 0 h) in elim z [ ]
-below (negsuc n) h = refl
+by_sign (pos n) (Ok x) f h = h.1
+by_sign (pos n) (Err e) f h = absurd (h (Fits-nat_abs {w' = w64} tt f).fits)
+by_sign (negsuc n) (Ok x) f h = absurd h.0
+by_sign (negsuc n) (Err e) f h = refl
 
-above : (z : ℤ) → lt_z z (pos 0) ≡ false → nat_abs z ≡ natural z
-unfolding natural
-above (pos n) h = refl
-above (negsuc n) h = let z : ⊥ = both_ways true h refl in elim z [ ]
-
-pub returns-then-x-lt0 : goal.returns-then-x-lt0
-returns-then-x-lt0 c = below c.args.x (ap (λ z. lt_z z (pos 0)) (sym (to_z-of_z w64 c.args.x c.ranges.x)) ∙ c.if-x-lt0.true)
-
-pub returns-else-x-lt0 : goal.returns-else-x-lt0
-returns-else-x-lt0 c =
-    ap nat_abs (to_z-of_z w64 c.args.x c.ranges.x)
-    ∙ above c.args.x (ap (λ z. lt_z z (pos 0)) (sym (to_z-of_z w64 c.args.x c.ranges.x)) ∙ c.if-x-lt0.false)
+pub returns : goal.returns
+returns c =
+    let read = to_z-of_z w64 c.args.x c.ranges.x in
+    c.unwrap_or.ensures ∙ by_sign c.args.x c.try_from.result c.ranges.x (rw read at c.try_from.ensures)

@@ -1,24 +1,22 @@
-use Rattle.std.proofs.Common.{◌≡◌, ◌+◌, ◌-◌, ◌≤◌, [], length, take, drop, refl, ap, ◌∙◌, arith}
+use Rattle.std.proofs.Common.{◌+◌, ◌≤◌, [], length, take, drop, refl, sym, ap, ◌∙◌, subst, arith}
 use Rattle.sheet_text.specs.Symbols.{symbols}
 use Rattle.sheet_text.specs.Grammar.{quoted, closed}
-use Rattle.sheet_text.specs.Lines.{mark, continued}
+use Rattle.sheet_text.specs.Lines.{mark, Scanned}
 use Rattle.sheet_text.proofs.Scanning.{rest_is}
 use Rattle.sheet_text.proofs.Marks.{stepped, closed_closes, closed_unmarked}
 use Rattle.sheet_text.proofs.scan.quoted_field.Goals as goal
 
-pub returns-in-Some-mark_of : goal.returns-in-Some-mark_of
-returns-in-Some-mark_of c =
+pub returns-in_err-mark : goal.returns-in_err-mark
+returns-in_err-mark c =
     let xs = c.args.rest.now in
-    let n = c.in-Some.n in
-    let m = c.in-Some-mark_of.mark in
-    let k = c.in-Some-mark_of.size in
-    let z : n ≡ n - 0 = omega arith in
-    let inside : n + 1 ≤ length xs = omega (arith, c.in-Some.ensures.within) in
-    let s = stepped (quoted (symbols xs) []) closed closed_closes xs (take n xs) (n + 1) k m inside c.in-Some.ensures.read (c.in-Some-mark_of.ensures ∙ ap mark (rest_is (n + 1) xs)) in
-    record { within = s.0; moves = s.1; falls = s.2; located = refl; read = s.3 ∙ ap (λ j. continued (take j xs) m (symbols (drop (n + 1 + k) xs))) z }
+    let n = c.in_ok-n.n in
+    subst (Scanned xs (quoted (symbols xs) []) c.args.at) (sym c.from_residual-in_err-mark.ensures)
+    (c.in_ok-n.ensures.read ∙ closed_unmarked (drop (n + 1) xs) (take n xs) c.in_ok-n.ensures.ends (c.in_err-mark.ensures ∙ ap mark (rest_is (n + 1) xs)))
 
-pub returns-in-None-mark_of : goal.returns-in-None-mark_of
-returns-in-None-mark_of c =
+pub returns : goal.returns
+returns c =
     let xs = c.args.rest.now in
-    let n = c.in-Some.n in
-    c.in-Some.ensures.read ∙ closed_unmarked (drop (n + 1) xs) (take n xs) c.in-Some.ensures.ends (c.in-None-mark_of.ensures ∙ ap mark (rest_is (n + 1) xs))
+    let n = c.in_ok-n.n in
+    let inside : n + 1 ≤ length xs = omega (arith, c.in_ok-n.ensures.within) in
+    let s = stepped (quoted (symbols xs) []) closed closed_closes xs (take n xs) (n + 1) c.in_ok-mark.size c.in_ok-mark.mark inside c.in_ok-n.ensures.read (c.in_ok-mark.ensures ∙ ap mark (rest_is (n + 1) xs)) in
+    record { within = s.0; moves = s.1; falls = s.2; located = refl; read = s.3 }

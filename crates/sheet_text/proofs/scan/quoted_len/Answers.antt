@@ -1,31 +1,25 @@
-use Rattle.std.proofs.Common.{ap, ◌∙◌, arith}
-use Rattle.sheet_text.specs.Lines.{inside}
-use Rattle.sheet_text.proofs.Scanning.{rest_is, quoted_on, quoted_on_two, quoted_closes, quoted_open}
+use Rattle.std.proofs.Common.{◌≡◌, ◌-◌, ◌<◌, length, get_or, take, drop, arith, rules}
+use Rattle.sheet_text.proofs.Scanning.{quoted_on, quoted_on_two, quoted_at_mark, quoted_open}
 use Rattle.sheet_text.proofs.scan.quoted_len.Goals as goal
+use Rattle.sheet_text.proofs.scan.quoted_len.Goals.{in_default-via-then-this-lt2+in_default-1, in_default-via-else-this-lt2+in_default-1}
 
-pub returns-in-Nothing : goal.returns-in-Nothing
-returns-in-Nothing c =
-    let xs = c.args.rest.now in
-    let n = c.loop-n.n in
-    record { within = tt; ends = tt; read = quoted_open xs n c.loop-n.invariant.1 (c.in-Nothing.ensures ∙ ap inside (rest_is n xs)) }
+pub returns-in-empty-clause-read : goal.returns-in-empty-clause-read
+returns-in-empty-clause-read c = quoted_open c.args.rest.now c.loop-n.n c.loop-n.invariant.1 c.in-empty.len_below
 
-pub loop-n-preserved-in-Doubled : goal.loop-n-preserved-in-Doubled
-loop-n-preserved-in-Doubled c =
-    let xs = c.args.rest.now in
-    let n = c.loop-n.n in
-    let t = quoted_on_two xs n c.loop-n.invariant.1 (c.in-Doubled.ensures ∙ ap inside (rest_is n xs)) in
-    (omega (arith, t.0), t.1)
+pub loop-n-preserved-in-34-this-3 : goal.loop-n-preserved-in-34-this-3
+loop-n-preserved-in-34-this-3 c = quoted_on_two c.args.rest.now c.loop-n.n c.loop-n.invariant.1 c.in-34.len_at_least (search rules) (search rules)
 
-pub returns-in-Closing : goal.returns-in-Closing
-returns-in-Closing c =
-    let xs = c.args.rest.now in
-    let n = c.loop-n.n in
-    let t = quoted_closes xs n c.loop-n.invariant.1 (c.in-Closing.ensures ∙ ap inside (rest_is n xs)) in
-    record { within = t.0; ends = t.1; read = t.2 }
+pub returns-in-34-2-clause-read : goal.returns-in-34-2-clause-read
+returns-in-34-2-clause-read c = quoted_at_mark c.args.rest.now c.loop-n.n c.loop-n.invariant.1 (omega arith) (search rules)
+
+pub returns-in-34-2-2-clause-read : goal.returns-in-34-2-2-clause-read
+returns-in-34-2-2-clause-read c = quoted_at_mark c.args.rest.now c.loop-n.n c.loop-n.invariant.1 (omega arith) (search rules)
 
 pub loop-n-preserved : goal.loop-n-preserved
 loop-n-preserved c =
     let xs = c.args.rest.now in
     let n = c.loop-n.n in
-    let t = quoted_on xs n c.loop-n.invariant.1 (c.in-Other.ensures ∙ ap inside (rest_is n xs)) in
-    (omega (arith, t.0), t.1)
+    let rest = take (length xs - n) (drop n xs) in
+    let some : 0 < length rest = search rules in
+    let other = λ (mark : get_or rest 0 0 ≡ 34). elim c.in_default.branch as (λ _. ⊥) [ in_default-via-then-this-lt2+in_default-1 w ↦ search rules | in_default-via-else-this-lt2+in_default-1 w ↦ search rules ] in
+    quoted_on xs n c.loop-n.invariant.1 some other

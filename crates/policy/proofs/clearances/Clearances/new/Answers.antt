@@ -1,12 +1,11 @@
-use Rattle.policy.proofs.Bits.{zeros}
+use Rattle.policy.proofs.Filled.{get_or-filled}
 use Rattle.policy.proofs.clearances.Clearances.new.Goals as goal
+use Rattle.policy.specs.Clearances.{lowest}
 use Rattle.std.proofs.lemmas.Bool.Decides.{nat_tests}
-use Rattle.std.proofs.Common.{refl, arith}
+use Rattle.std.proofs.Common.{ap, arith}
 
-pub returns : goal.returns
-returns c = record {
-  answer = grind (arith, nat_tests);
-  size = refl;
-  clearances = λ x. (zeros 32 x, zeros 32 x);
-  relation = λ x y. let p = zeros 32 x in let q = zeros 32 y in grind (arith, nat_tests);
-}
+pub returns-clause-clearances : goal.returns-clause-clearances
+returns-clause-clearances c = λ x. (ap (λ k. k.rank) (get_or-filled 32 x lowest), ap (λ k. k.compartments) (get_or-filled 32 x lowest))
+
+pub returns-clause-relation : goal.returns-clause-relation
+returns-clause-relation c = λ x y. let p = get_or-filled 32 x lowest in let q = get_or-filled 32 y lowest in grind (arith, nat_tests)

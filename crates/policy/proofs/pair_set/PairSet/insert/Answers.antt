@@ -1,5 +1,5 @@
 use Rattle.std.proofs.Common.{◌<◌, length, arith, rules}
-use Rattle.policy.proofs.Bits.{marked_bit}
+use Rattle.policy.proofs.Filled.{set_row}
 use Rattle.policy.proofs.pair_set.PairSet.insert.Goals as goal
 use Rattle.std.proofs.lemmas.Bool.Decides.{nat_tests}
 
@@ -7,5 +7,5 @@ pub returns : goal.returns
 returns c =
     let room : c.args.a < length c.args.self.now.rows = search rules in
     λ x y.
-    let bits = marked_bit c.args.self.now.rows c.args.a c.args.b x y room (omega arith) in
+    let places = set_row c.args.self.now.rows _ c.args.a c.args.b x y room (c.mark.ensures y) in
     grind (arith, nat_tests)

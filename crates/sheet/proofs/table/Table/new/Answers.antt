@@ -8,7 +8,6 @@ unfolding view
 invariant_of-result c =
     let o = counted_once c.args.rows.now in
     record {
-      whole = refl;
       r = refl;
       t = c.count.ensures;
       s = c.count-2.ensures;

@@ -1,26 +1,34 @@
-use Rattle.std.proofs.Common.{◌≡◌, ℕ, ◌<◌, length, drop, sym, refl, ap, ◌∙◌, add-zero, arith, length-drop, rules}
+use Rattle.std.proofs.Common.{sym, ap, ◌∙◌}
 use Rattle.sheet_text.specs.Rows.{blank, rows_from, next, after}
-use Rattle.sheet_text.proofs.Lines.{rows_some, rows_none, misquoted}
+use Rattle.sheet_text.proofs.Lines.{rows_at, rows_none, misquoted}
 use Rattle.sheet_text.proofs.reader.Reader.read_row.Goals as goal
 
-pub returns-then-self-input : goal.returns-then-self-input
-returns-then-self-input c =
-    let none = rows_none c.args.self.now.input.now c.args.self.now.pos (omega arith) in
-    record { value = sym (ap next none); rest = none ∙ sym (ap after none); row = sym (add-zero _); room = λ e. let z : ◌≡◌ {A = ℕ} 0 1 = cc in absurd (omega arith) }
+pub returns-then-self-clause-value : goal.returns-then-self-clause-value
+returns-then-self-clause-value c = let r = c.args.self.now in sym (ap next (rows_none r.input.now r.pos c.if-self.true))
 
-pub returns-in-None : goal.returns-in-None
-returns-in-None c =
-    let xs = c.args.self.now.input.now in
-    let at = c.args.self.now.pos in
-    let some : 0 < length (drop at xs) = omega (arith, length-drop at xs) in
-    let starts = rows_some (drop at xs) some in
-    let bad = misquoted blank (rows_from c.args.self.now) (ap next starts ∙ c.in-None.ensures) in
-    record { value = sym (ap next starts ∙ c.in-None.ensures); rest = bad ∙ sym (ap after bad); row = sym (add-zero _); room = λ e. search rules }
+pub returns-then-self-clause-rest : goal.returns-then-self-clause-rest
+returns-then-self-clause-rest c =
+    let r = c.args.self.now in
+    let none = rows_none r.input.now r.pos c.if-self.true in
+    none ∙ sym (ap after none)
 
-pub returns-in-Some : goal.returns-in-Some
-returns-in-Some c =
-    let xs = c.args.self.now.input.now in
-    let at = c.args.self.now.pos in
-    let some : 0 < length (drop at xs) = omega (arith, length-drop at xs) in
-    let starts = rows_some (drop at xs) some in
-    record { value = sym (ap next starts ∙ c.in-Some.ensures.2); rest = sym (ap after starts ∙ c.in-Some.ensures.3); row = refl; room = λ e. let z : ◌≡◌ {A = ℕ} 0 1 = cc in absurd (omega arith) }
+pub returns-in-Err-clause-value : goal.returns-in-Err-clause-value
+returns-in-Err-clause-value c =
+    let r = c.args.self.now in
+    sym (ap next (rows_at r.input.now r.pos c.if-self.false) ∙ c.in-Err.ensures)
+
+pub returns-in-Err-clause-rest : goal.returns-in-Err-clause-rest
+returns-in-Err-clause-rest c =
+    let r = c.args.self.now in
+    let bad = misquoted blank (rows_from r) c.in-Err.misquoted (ap next (rows_at r.input.now r.pos c.if-self.false) ∙ c.in-Err.ensures) in
+    bad ∙ sym (ap after bad)
+
+pub returns-in-Ok-clause-value : goal.returns-in-Ok-clause-value
+returns-in-Ok-clause-value c =
+    let r = c.args.self.now in
+    sym (ap next (rows_at r.input.now r.pos c.if-self.false) ∙ c.in-Ok.ensures.2)
+
+pub returns-in-Ok-clause-rest : goal.returns-in-Ok-clause-rest
+returns-in-Ok-clause-rest c =
+    let r = c.args.self.now in
+    sym (ap after (rows_at r.input.now r.pos c.if-self.false) ∙ c.in-Ok.ensures.3)

@@ -1,5 +1,0 @@
-use Rattle.number.proofs.Floats.{equals_zero_lem}
-use Rattle.number.proofs.metres.equals_zero.Goals as goal
-
-pub returns : goal.returns
-returns c = equals_zero_lem c.args.x

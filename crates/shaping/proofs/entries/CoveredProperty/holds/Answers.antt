@@ -1,6 +1,0 @@
-use Rattle.shaping.specs.Entries.{covered}
-use Rattle.shaping.proofs.entries.CoveredProperty.holds.Goals as goal
-
-pub returns : goal.returns
-unfolding covered
-returns c = cc

@@ -1,6 +1,0 @@
-use Rattle.sheet.specs.Sheet.{view}
-use Rattle.sheet.proofs.table.Table.type_at.Goals as goal
-
-pub returns : goal.returns
-unfolding view
-returns c = cc
