@@ -1,5 +1,5 @@
 -- What is loaded into the cells, and what is told and kept of a run.
-use Rattle.std.proofs.Common.{◌≡◌, ℕ, suc, ◌+◌, List, [], ◌∷◌, map, pos, sym, refl, ap, ◌∙◌, subst, ap₂}
+use Rattle.std.proofs.Common.{◌≡◌, ℕ, suc, ◌+◌, List, [], ◌∷◌, map, pos, Ok, Err, Result, sym, refl, ap, ◌∙◌, subst, ap₂}
 use Rattle.number.specs.NumberKind.{NumberKind}
 use Rattle.number.specs.Millimetre.{clamp}
 use Rattle.sheet.specs.declared.decoded.Kind.TheVariants.{Literal}
@@ -14,30 +14,29 @@ use Rattle.machine.specs.declared.values.Value.TheVariants.{Number, Closure, Ref
 use Rattle.machine.specs.declared.values.Binding.{Binding}
 use Rattle.machine.specs.declared.values.Cell.{Cell}
 use Rattle.machine.specs.declared.values.Outcome.{Outcome}
-use Rattle.machine.specs.declared.values.Outcome.TheVariants.{Done, Stopped}
 use Rattle.machine.specs.Flat.{FlatOutcome, flat_eval}
-use Rattle.machine.specs.Seen.{value, cells, bindings, outcome, flat}
-use Rattle.evaluator.specs.Runs.{limits, concluded, opened, number_in, taken, kept}
+use Rattle.machine.specs.Seen.{value, cells, bindings, ended, outcome, flat}
+use Rattle.evaluator.specs.Runs.{limits, told, concluded, opened, number_in, taken, kept_by, kept}
 use Rattle.evaluator.proofs.Carry.{Carries, Slots}
 use Rattle.evaluator.proofs.Flatten.{SimO, flat as flattened}
 
 module _ {K V : Type 0} (n : K → V) (z : V) where
   -- the same is told of both
-  same_told : (bs : List (Binding V)) (o : TreeOutcome V) (r : Outcome K) (bs' : List (Binding K)) (cs' : List (Cell K))
-      → SimO bs o (outcome n r bs' cs') → concluded n z r ≡ report z o
-  same_told bs (done (number x) s) (Done (Number y) t) bs' cs' h =
+  same_told : (bs : List (Binding V)) (o : TreeOutcome V) (a : Result (Value K) Stop) (u : ℕ) (bs' : List (Binding K)) (cs' : List (Cell K))
+      → SimO bs o (ended n a u bs' cs') → told n z a u ≡ report z o
+  same_told bs (done (number x) s) (Ok (Number y)) t bs' cs' h =
       ap (λ (w : V). record { ending = ending.Number; number = w; steps = t }) (sym h.1) ∙ ap (λ (w : ℕ). record { ending = ending.Number; number = x; steps = w }) (sym h.2.steps)
-  same_told bs (done (number x) s) (Done (Closure f k) t) bs' cs' h = absurd h.1
-  same_told bs (done (number x) s) (Done (Reference a) t) bs' cs' h = absurd h.1
-  same_told bs (done (closure f ρ) s) (Done (Number y) t) bs' cs' h = absurd h.1
-  same_told bs (done (closure f ρ) s) (Done (Closure g k) t) bs' cs' h = ap (λ (w : ℕ). record { ending = ending.NoNumber; number = z; steps = w }) (sym h.2.steps)
-  same_told bs (done (closure f ρ) s) (Done (Reference a) t) bs' cs' h = absurd h.1
-  same_told bs (done (reference a) s) (Done (Number y) t) bs' cs' h = absurd h.1
-  same_told bs (done (reference a) s) (Done (Closure g k) t) bs' cs' h = absurd h.1
-  same_told bs (done (reference a) s) (Done (Reference b) t) bs' cs' h = ap (λ (w : ℕ). record { ending = ending.NoNumber; number = z; steps = w }) (sym h.2.steps)
-  same_told bs (done v s) (Stopped e t) bs' cs' h = absurd h
-  same_told bs (stopped e t) (Done v u) bs' cs' h = absurd h
-  same_told bs (stopped e t) (Stopped e' t') bs' cs' h =
+  same_told bs (done (number x) s) (Ok (Closure f k)) t bs' cs' h = absurd h.1
+  same_told bs (done (number x) s) (Ok (Reference a)) t bs' cs' h = absurd h.1
+  same_told bs (done (closure f ρ) s) (Ok (Number y)) t bs' cs' h = absurd h.1
+  same_told bs (done (closure f ρ) s) (Ok (Closure g k)) t bs' cs' h = ap (λ (w : ℕ). record { ending = ending.NoNumber; number = z; steps = w }) (sym h.2.steps)
+  same_told bs (done (closure f ρ) s) (Ok (Reference a)) t bs' cs' h = absurd h.1
+  same_told bs (done (reference a) s) (Ok (Number y)) t bs' cs' h = absurd h.1
+  same_told bs (done (reference a) s) (Ok (Closure g k)) t bs' cs' h = absurd h.1
+  same_told bs (done (reference a) s) (Ok (Reference b)) t bs' cs' h = ap (λ (w : ℕ). record { ending = ending.NoNumber; number = z; steps = w }) (sym h.2.steps)
+  same_told bs (done v s) (Err e) t bs' cs' h = absurd h
+  same_told bs (stopped e t) (Ok v) u bs' cs' h = absurd h
+  same_told bs (stopped e t) (Err e') t' bs' cs' h =
       ap (λ (w : Stop). record { ending = ending.Stopped w; number = z; steps = t' }) (sym h.0) ∙ ap (λ (w : ℕ). record { ending = ending.Stopped e; number = z; steps = w }) (sym h.1)
 
 module _ {K V : Type 0} (n : K → V) where
@@ -68,20 +67,20 @@ module _ {K V : Type 0} (n : K → V) where
   same_taken bs (t ∷ ts) (c ∷ cs) (k ∷ ks) h =
       ap₂ (λ (y : V) (l : List V). y ∷ l) (same_number bs t.value c.value k h.1) (same_taken bs ts cs ks h.2)
 
-  same_kept : (bs : List (Binding V)) (o : TreeOutcome V) (r : Outcome K) (bs' : List (Binding K)) (cs' : List (Cell K)) (ks : List K)
-      → SimO bs o (outcome n r bs' cs') → map n (kept r cs' ks) ≡ numbers_after o (map n ks)
-  same_kept bs (done (number x) s) (Done (Number y) t) bs' cs' ks h = same_taken (bindings n bs') s.cells cs' ks h.2.slots
-  same_kept bs (done (number x) s) (Done (Closure f k) t) bs' cs' ks h = absurd h.1
-  same_kept bs (done (number x) s) (Done (Reference a) t) bs' cs' ks h = absurd h.1
-  same_kept bs (done (closure f ρ) s) (Done (Number y) t) bs' cs' ks h = absurd h.1
-  same_kept bs (done (closure f ρ) s) (Done (Closure g k) t) bs' cs' ks h = refl
-  same_kept bs (done (closure f ρ) s) (Done (Reference a) t) bs' cs' ks h = absurd h.1
-  same_kept bs (done (reference a) s) (Done (Number y) t) bs' cs' ks h = absurd h.1
-  same_kept bs (done (reference a) s) (Done (Closure g k) t) bs' cs' ks h = absurd h.1
-  same_kept bs (done (reference a) s) (Done (Reference b) t) bs' cs' ks h = refl
-  same_kept bs (done v s) (Stopped e t) bs' cs' ks h = absurd h
-  same_kept bs (stopped e t) (Done v u) bs' cs' ks h = absurd h
-  same_kept bs (stopped e t) (Stopped f u) bs' cs' ks h = refl
+  same_kept : (bs : List (Binding V)) (o : TreeOutcome V) (a : Result (Value K) Stop) (u : ℕ) (bs' : List (Binding K)) (cs' : List (Cell K)) (ks : List K)
+      → SimO bs o (ended n a u bs' cs') → map n (kept_by a cs' ks) ≡ numbers_after o (map n ks)
+  same_kept bs (done (number x) s) (Ok (Number y)) t bs' cs' ks h = same_taken (bindings n bs') s.cells cs' ks h.2.slots
+  same_kept bs (done (number x) s) (Ok (Closure f k)) t bs' cs' ks h = absurd h.1
+  same_kept bs (done (number x) s) (Ok (Reference a)) t bs' cs' ks h = absurd h.1
+  same_kept bs (done (closure f ρ) s) (Ok (Number y)) t bs' cs' ks h = absurd h.1
+  same_kept bs (done (closure f ρ) s) (Ok (Closure g k)) t bs' cs' ks h = refl
+  same_kept bs (done (closure f ρ) s) (Ok (Reference a)) t bs' cs' ks h = absurd h.1
+  same_kept bs (done (reference a) s) (Ok (Number y)) t bs' cs' ks h = absurd h.1
+  same_kept bs (done (reference a) s) (Ok (Closure g k)) t bs' cs' ks h = absurd h.1
+  same_kept bs (done (reference a) s) (Ok (Reference b)) t bs' cs' ks h = refl
+  same_kept bs (done v s) (Err e) t bs' cs' ks h = absurd h
+  same_kept bs (stopped e t) (Ok v) u bs' cs' ks h = absurd h
+  same_kept bs (stopped e t) (Err f) u bs' cs' ks h = refl
 
 -- the stacks that a run begins with: the limits are their rooms
 pub begun : {K : Type 0} (M : NumberKind) (S : Sheet) (n : K → M.Value) (fuel e b c d root : ℕ) (bs : List (Binding K)) (cs : List (Cell K)) (ks : List K)
@@ -108,7 +107,7 @@ module _ {K : Type 0} (M : NumberKind) (S : Sheet) (n : K → M.Value) (fits : (
       (record { slots = opened_slots n [] 0 ks; count = refl; steps = refl }))
 
   pub tells_as_defined : concluded n (M.whole (pos 0)) r ≡ run_report M S fuel e (map n ks)
-  tells_as_defined = same_told n (M.whole (pos 0)) [] (run M S fuel e (map n ks)) r bs' cs' ends
+  tells_as_defined = same_told n (M.whole (pos 0)) [] (run M S fuel e (map n ks)) r.answer r.steps bs' cs' ends
 
   pub keeps_as_defined : (xs : List K) → map n (kept r cs' xs) ≡ numbers_after (run M S fuel e (map n ks)) (map n xs)
-  keeps_as_defined xs = same_kept n [] (run M S fuel e (map n ks)) r bs' cs' xs ends
+  keeps_as_defined xs = same_kept n [] (run M S fuel e (map n ks)) r.answer r.steps bs' cs' xs ends

@@ -1,6 +1,7 @@
 -- What the code holds before, in and after a run, with each number by its value.
-use Rattle.std.specs.Prelude.{ℕ, zero, suc, ◌+◌, ◌≤◌, List, [], ◌∷◌, length}
+use Rattle.std.specs.Prelude.{ℕ, zero, suc, ◌+◌, ◌≤◌, List, [], ◌∷◌, length, Ok, Err, Result}
 use Rattle.sheet.specs.Sheet.{Sheet}
+use Rattle.evaluation.specs.declared.ending.Stop.{Stop}
 use Rattle.evaluation.specs.declared.ending.Ending.TheVariants as ending
 use Rattle.evaluation.specs.Evaluation.{most_pending, most_bindings, most_fresh}
 use Rattle.evaluation.specs.Runs.{Report as Told}
@@ -8,7 +9,6 @@ use Rattle.machine.specs.declared.values.Value.{Value}
 use Rattle.machine.specs.declared.values.Value.TheVariants.{Number, Closure, Reference}
 use Rattle.machine.specs.declared.values.Cell.{Cell}
 use Rattle.machine.specs.declared.values.Outcome.{Outcome}
-use Rattle.machine.specs.declared.values.Outcome.TheVariants.{Done, Stopped}
 use Rattle.machine.specs.declared.areas.WorkAreas.{WorkAreas}
 use Rattle.machine.specs.Flat.{Limits}
 use Rattle.evaluator.specs.declared.report.Report.{Report}
@@ -29,11 +29,14 @@ module _ {K V : Type 0} (n : K → V) where
   reported r = record { ending = r.ending; number = n r.number; steps = r.steps }
 
   -- the report of what the machine came to, where z is the number 0
+  abbrev pub told : V → Result (Value K) Stop → ℕ → Told V
+  told z (Ok (Number x)) t = record { ending = ending.Number; number = n x; steps = t }
+  told z (Ok (Closure f k)) t = record { ending = ending.NoNumber; number = z; steps = t }
+  told z (Ok (Reference a)) t = record { ending = ending.NoNumber; number = z; steps = t }
+  told z (Err e) t = record { ending = ending.Stopped e; number = z; steps = t }
+
   abbrev pub concluded : V → Outcome K → Told V
-  concluded z (Done (Number x) t) = record { ending = ending.Number; number = n x; steps = t }
-  concluded z (Done (Closure f k) t) = record { ending = ending.NoNumber; number = z; steps = t }
-  concluded z (Done (Reference a) t) = record { ending = ending.NoNumber; number = z; steps = t }
-  concluded z (Stopped e t) = record { ending = ending.Stopped e; number = z; steps = t }
+  concluded z o = told z o.answer o.steps
 
 module _ {K : Type 0} where
   -- a cell for each number, from site s on
@@ -54,11 +57,14 @@ module _ {K : Type 0} where
   taken (c ∷ cs) (x ∷ xs) = number_in c.value x ∷ taken cs xs
 
   -- what the sites hold after a run
+  abbrev pub kept_by : Result (Value K) Stop → List (Cell K) → List K → List K
+  kept_by (Ok (Number x)) cs xs = taken cs xs
+  kept_by (Ok (Closure f k)) cs xs = xs
+  kept_by (Ok (Reference a)) cs xs = xs
+  kept_by (Err e) cs xs = xs
+
   abbrev pub kept : Outcome K → List (Cell K) → List K → List K
-  kept (Done (Number x) t) cs xs = taken cs xs
-  kept (Done (Closure f k) t) cs xs = xs
-  kept (Done (Reference a) t) cs xs = xs
-  kept (Stopped e t) cs xs = xs
+  kept o cs xs = kept_by o.answer cs xs
 
 -- the numbers of so many sites: those given, and z at the others
 abbrev pub padded : {A : Type 0} → ℕ → A → List A → List A

@@ -1,7 +1,7 @@
 // A run of an entry: copies of the channels' numbers go into the cells of the sites, the machine runs
 // over them, and the numbers go back only where the run ended in a number.
 ghost use Rattle.std.specs.Prelude.{◌≡◌, ◌≤◌, [], map, length, pos};
-ghost use Rattle.stack.specs.Live.{live, room};
+ghost use Rattle.stack.specs.Live.{live, room, SameArea};
 ghost use Rattle.sheet.specs.Sheet.{view};
 ghost use Rattle.evaluation.specs.Runs.{run as outcome, run_report, «numbers_after»};
 ghost use Rattle.machine.specs.Areas.{SameLoans};
@@ -17,7 +17,7 @@ use stack::BoundedStack;
 // A cell for each site, with the site's number; the sites past the numbers begin at `zero`.
 fn load<K: Number>(cells: &mut BoundedStack<Cell<K>>, sites: usize, numbers: &[K], zero: K)
     requires { (live cells.old ≡ []) × (sites ≤ room cells.old) }
-    ensures places { room cells.new ≡ room cells.old }
+    ensures area { SameArea cells.old cells.new }
     ensures held { live cells.new ≡ opened 0 (padded sites zero numbers.now) }
 {
     for site in 0..sites {
@@ -35,7 +35,7 @@ fn number_in<K: Number>(value: Value<K>, old: K) -> K
 {
     match value {
         Value::Number(number) => number,
-        Value::Closure { .. } | Value::Reference(_) => old,
+        _ => old,
     }
 }
 
@@ -43,6 +43,7 @@ fn number_in<K: Number>(value: Value<K>, old: K) -> K
 fn take<K: Number>(cells: &BoundedStack<Cell<K>>, numbers: &mut [K])
     ensures { numbers.new ≡ taken (live cells.now) numbers.old }
 {
+    // A `zip` with the cells hides from the proof what is written through it, so the sites are counted.
     for (site, number) in numbers.iter_mut().enumerate() {
         if let Some(cell) = cells.get(site) {
             *number = number_in(cell.value, *number);
@@ -54,13 +55,8 @@ fn take<K: Number>(cells: &BoundedStack<Cell<K>>, numbers: &mut [K])
 fn keep<K: Number>(outcome: Outcome<K>, cells: &BoundedStack<Cell<K>>, numbers: &mut [K])
     ensures { numbers.new ≡ kept outcome (live cells.now) numbers.old }
 {
-    match outcome {
-        Outcome::Done { value, steps: _ } => match value {
-            Value::Number(_) => take(cells, numbers),
-            Value::Closure { node: _, scope: _ } => {}
-            Value::Reference(_) => {}
-        },
-        Outcome::Stopped { stop: _, steps: _ } => {}
+    if let Ok(Value::Number(_)) = outcome.answer {
+        take(cells, numbers);
     }
 }
 
@@ -69,29 +65,15 @@ pub fn conclude<K: Number>(outcome: Outcome<K>) -> Report<K>
     ensures { reported K.Number.value result ≡ concluded K.Number.value (K.Number.kind.whole (pos 0)) outcome }
 {
     let zero = K::from_whole(0);
-    match outcome {
-        Outcome::Done { value, steps } => match value {
-            Value::Number(number) => Report {
-                ending: Ending::Number,
-                number,
-                steps,
-            },
-            Value::Closure { node: _, scope: _ } => Report {
-                ending: Ending::NoNumber,
-                number: zero,
-                steps,
-            },
-            Value::Reference(_) => Report {
-                ending: Ending::NoNumber,
-                number: zero,
-                steps,
-            },
-        },
-        Outcome::Stopped { stop, steps } => Report {
-            ending: Ending::Stopped(stop),
-            number: zero,
-            steps,
-        },
+    let (ending, number) = match outcome.answer {
+        Ok(Value::Number(number)) => (Ending::Number, number),
+        Ok(_) => (Ending::NoNumber, zero),
+        Err(stop) => (Ending::Stopped(stop), zero),
+    };
+    Report {
+        ending,
+        number,
+        steps: outcome.steps,
     }
 }
 

@@ -20,12 +20,7 @@ pub fn is_lawful_fuel(fuel: usize) -> bool
 }
 
 // The first question that is answered no.
-fn check<K>(
-    table: &Table,
-    entry: usize,
-    fuel: usize,
-    areas: &WorkAreas<K>,
-) -> Result<(), Refusal>
+fn check<K>(table: &Table, entry: usize, fuel: usize, areas: &WorkAreas<K>) -> Result<(), Refusal>
     ensures { result ≡ trial_verdict (view table.now.rows.now) entry fuel (length areas.now.pending.now) (length areas.now.bound.now) (length areas.now.held.now) }
 {
     if entry >= table.entries {

@@ -1,4 +1,4 @@
-use Rattle.std.proofs.Common.{◌≡◌, List, map, length, pos, ap, ◌∙◌}
+use Rattle.std.proofs.Common.{◌≡◌, List, map, pos, ap, ◌∙◌}
 use lib.ListN.{length-map}
 use Rattle.sheet.specs.Sheet.{view}
 use Rattle.evaluation.specs.Runs.{run_report, run, numbers_after}

@@ -25,7 +25,7 @@ returns g c =
     let big : c.args.sheet.now.table.sites + 512 - 0 ≤ length c.args.areas.now.held.now = omega arith in
     let all : c.args.sheet.now.table.sites + 512 - 0 ≡ S.sites + most_fresh = omega arith in
     let held : room c.load.new.cells ≡ S.sites + most_fresh =
-    c.load.ensures.places ∙ c.new-cells.ensures.places ∙ length-take-le _ _ big ∙ all in
+    c.load.ensures.area.places ∙ c.new-cells.ensures.places ∙ length-take-le _ _ big ∙ all in
     let ran =
     c.run-outcome.ensures
     ∙ begun M S n c.args.fuel c.args.entry (room c.new-bindings.result) (room c.load.new.cells) (room c.new-frames.result) c.entry_at-root.result.root
