@@ -1,6 +1,6 @@
 // The lines of standard input that a station takes: calls of its seats.
-use super::kinds::Worded;
 use super::numerals::natural;
+use std::str::FromStr;
 
 // A call of a seat.
 #[derive(Clone, Copy)]
@@ -22,7 +22,10 @@ pub enum Call<K> {
 }
 
 // The call that a text says.
-pub fn parse<K: Worded>(text: &str) -> Option<Call<K>> {
+pub fn parse<K: FromStr>(text: &str) -> Option<Call<K>>
+where
+    K::Err: Drop,
+{
     let mut words = text.split_whitespace();
     let name = words.next()?;
     let seat = natural(words.next()?)?;
@@ -31,7 +34,7 @@ pub fn parse<K: Worded>(text: &str) -> Option<Call<K>> {
         ("post", Some(number), None) => Some(Call::Post {
             seat,
             channel: target,
-            number: K::parsed(number)?,
+            number: number.parse().ok()?,
         }),
         ("read", None, None) => Some(Call::Read {
             seat,

@@ -1,7 +1,7 @@
 // Why a sheet was not admitted: which clause of a rule a node breaks, and which label may not flow.
 use policy::Policy;
 use sheet::sets::{has, within};
-use sheet::{Form, Kind, NodeRow, Table, TypeRow};
+use sheet::{Flag, Form, Kind, NodeRow, Table, TypeRow};
 use typing::fitting::fit;
 use typing::rules::node_type;
 
@@ -13,24 +13,27 @@ pub fn barred<P: Policy>(policy: &P, set: usize, to: usize) -> Option<u32> {
     })
 }
 
-fn variable(table: Table, x: NodeRow) -> &'static str {
-    if !matches!(node_type(table, x.argument).form, Form::Function) {
+// The clause that a variable breaks.
+fn variable(table: &Table, x: NodeRow) -> &'static str {
+    if node_type(table, x.argument).form != Form::Function {
         "the node that the variable names has no function type"
     } else {
         "the argument type of the function that it names does not fit the variable's own type"
     }
 }
 
+// The clause that a function node breaks.
 fn lambda(own: TypeRow) -> &'static str {
-    if !matches!(own.form, Form::Function) {
+    if own.form != Form::Function {
         "a function node's own type is a function type"
     } else {
         "the body's type does not fit the result type"
     }
 }
 
-fn application(table: Table, function: TypeRow, x: NodeRow, value: usize) -> &'static str {
-    if !matches!(function.form, Form::Function) {
+// The clause that an application breaks.
+fn application(table: &Table, function: TypeRow, x: NodeRow, value: usize) -> &'static str {
+    if function.form != Form::Function {
         "the first part of an application has a function type"
     } else if !fit(table, value, function.argument) {
         "the second part's type does not fit the function's argument type"
@@ -43,28 +46,31 @@ fn application(table: Table, function: TypeRow, x: NodeRow, value: usize) -> &'s
     }
 }
 
-fn creation(table: Table, own: TypeRow, x: NodeRow) -> &'static str {
-    if !matches!(own.form, Form::Reference) {
+// The clause that a new cell or a channel breaks.
+fn creation(table: &Table, own: TypeRow, x: NodeRow) -> &'static str {
+    if own.form != Form::Reference {
         "the node's own type is a reference type"
     } else if !has(x.argument, own.sites) {
         "the site is not among the sites of the node's reference type"
-    } else if table.site_at(x.argument).flag == 0 {
+    } else if table.site_at(x.argument).flag == Flag::Fresh {
         "the part's type, raised by the node's control set, does not fit what the site holds"
     } else {
         "the site is of the wrong kind: new names a fresh site, channel names a channel"
     }
 }
 
+// The clause that a read breaks.
 fn reading(reference: TypeRow) -> &'static str {
-    if !matches!(reference.form, Form::Reference) {
+    if reference.form != Form::Reference {
         "the part that is read has a reference type"
     } else {
         "what some site of the reference holds, raised by the reference's label set, does not fit the node's type"
     }
 }
 
-fn writing(table: Table, reference: TypeRow, x: NodeRow, value: usize) -> &'static str {
-    if !matches!(reference.form, Form::Reference) {
+// The clause that a write breaks.
+fn writing(table: &Table, reference: TypeRow, x: NodeRow, value: usize) -> &'static str {
+    if reference.form != Form::Reference {
         "the first part of a write has a reference type"
     } else if !fit(table, value, x.ty) {
         "the second part's type does not fit the node's own type"
@@ -73,8 +79,9 @@ fn writing(table: Table, reference: TypeRow, x: NodeRow, value: usize) -> &'stat
     }
 }
 
-fn choice(table: Table, condition: TypeRow, x: NodeRow, second: usize) -> &'static str {
-    if !matches!(condition.form, Form::Number) {
+// The clause that a choice breaks.
+fn choice(table: &Table, condition: TypeRow, x: NodeRow, second: usize) -> &'static str {
+    if condition.form != Form::Number {
         "the condition of a choice is a number"
     } else if !fit(table, second, x.ty) {
         "the second part's type does not fit the node's type"
@@ -85,11 +92,9 @@ fn choice(table: Table, condition: TypeRow, x: NodeRow, second: usize) -> &'stat
     }
 }
 
+// The clause that an operation breaks.
 fn operation(first: TypeRow, second: TypeRow, own: TypeRow) -> &'static str {
-    if !matches!(first.form, Form::Number)
-        || !matches!(second.form, Form::Number)
-        || !matches!(own.form, Form::Number)
-    {
+    if first.form != Form::Number || second.form != Form::Number || own.form != Form::Number {
         "both parts of an operation, and the node itself, are numbers"
     } else if !within(first.set, own.set) {
         "the first part's label set does not lie within the node's"
@@ -99,7 +104,7 @@ fn operation(first: TypeRow, second: TypeRow, own: TypeRow) -> &'static str {
 }
 
 // The clause of its type rule that node i breaks.
-pub fn type_rule(table: Table, i: usize) -> &'static str {
+pub fn type_rule(table: &Table, i: usize) -> &'static str {
     let x = table.node_at(i);
     let own = table.type_at(x.ty);
     let end = i.saturating_sub(1);
@@ -124,7 +129,7 @@ pub fn type_rule(table: Table, i: usize) -> &'static str {
 }
 
 // The clause of its control rule that node i breaks.
-pub fn control_rule(table: Table, i: usize) -> &'static str {
+pub fn control_rule(table: &Table, i: usize) -> &'static str {
     match table.node_at(i).kind {
         Kind::Lambda => "the body's control set does not contain the function type's effect set",
         Kind::Choice => {

@@ -1,6 +1,4 @@
 // The kinds of numbers, as words.
-use number::{Metres, Millimetres, Number};
-use std::alloc::{AllocError, Global};
 use std::io;
 use std::str::FromStr;
 use thiserror::Error;
@@ -36,43 +34,6 @@ pub fn asked_kind(rt: &HostRuntime, word: &str) -> io::Result<Option<Kind>> {
         Err(error) => {
             eprintln!(rt; "formula_station: {error}")?;
             Ok(None)
-        }
-    }
-}
-
-// A kind of numbers that can be written and read.
-pub trait Worded: Number {
-    // The number in full, in the fewest digits that say it.
-    fn shown(self, heap: Global) -> Result<String, AllocError>;
-
-    // None where the word is no number of this kind.
-    fn parsed(word: &str) -> Option<Self>;
-}
-
-impl Worded for Millimetres {
-    fn shown(self, heap: Global) -> Result<String, AllocError> {
-        let count = self.count;
-        format!(in heap; "{count}")
-    }
-
-    fn parsed(word: &str) -> Option<Millimetres> {
-        match word.parse::<i32>() {
-            Ok(count) => Some(Millimetres { count }),
-            Err(_) => None,
-        }
-    }
-}
-
-impl Worded for Metres {
-    fn shown(self, heap: Global) -> Result<String, AllocError> {
-        let length = self.length;
-        format!(in heap; "{length}")
-    }
-
-    fn parsed(word: &str) -> Option<Metres> {
-        match word.parse::<f64>() {
-            Ok(length) => Some(Metres { length }),
-            Err(_) => None,
         }
     }
 }

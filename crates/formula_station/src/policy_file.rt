@@ -1,22 +1,19 @@
 // A policy's file: 'pairs N' or 'clearances N' first, then 'flow A B' lines of a pair list, or
 // 'rank LABEL RANK' and 'compartments LABEL SET' lines of clearances, and 'revoke A B' lines last.
+use super::files::read_or_tell;
 use super::listed::Listed;
 use super::policy_lines::{Line, parse};
-use super::words;
 use policy::{Clearances, Narrowed, PairList, Refusal};
 use std::{fs, io};
+use thiserror::Error;
 
-// Why a line was not taken.
-#[derive(Clone, Copy)]
+// Why a line was not taken, as the answer says it.
+#[derive(Debug, Drop, Error)]
 enum Fault {
+    #[error("malformed")]
     Malformed,
-    Refused(Refusal),
-}
-
-impl From<Refusal> for Fault {
-    fn from(refusal: Refusal) -> Fault {
-        Fault::Refused(refusal)
-    }
+    #[error("refused {}", .0.number())]
+    Refused(#[from] Refusal),
 }
 
 // A policy as far as its file has been read: no more is listed after the first line that revokes.
@@ -74,16 +71,14 @@ fn with_line(reading: Option<Reading>, text: &str) -> Result<Reading, Fault> {
 
 // Tells of a line that was not taken.
 fn tell(rt: &HostRuntime, fault: Fault, number: usize, text: &str) -> io::Result<()> {
+    println!(rt; "policy {fault} line {number}")?;
     match fault {
         Fault::Malformed => {
-            println!(rt; "policy malformed line {number}")?;
             eprintln!(rt; "line {number} of the policy is no line that may stand there: {text}")
         }
         Fault::Refused(refusal) => {
             let question = refusal.number();
-            let why = words::of_policy(refusal);
-            println!(rt; "policy refused {question} line {number}")?;
-            eprintln!(rt; "question {question}: {why} (line {number}: {text})")
+            eprintln!(rt; "question {question}: {refusal} (line {number}: {text})")
         }
     }
 }
@@ -115,11 +110,8 @@ fn read(rt: &HostRuntime, text: &str) -> io::Result<Option<Narrowed<Listed>>> {
 
 // The policy of a file; none where it was not read to its end, and why is told.
 pub fn open(rt: &HostRuntime, path: &str) -> io::Result<Option<Narrowed<Listed>>> {
-    match fs::read_to_string(rt, path) {
-        Ok(text) => read(rt, &text),
-        Err(error) => {
-            eprintln!(rt; "formula_station: cannot read {path}: {error}")?;
-            Ok(None)
-        }
+    match read_or_tell(rt, path, fs::read_to_string(rt, path))? {
+        Some(text) => read(rt, &text),
+        None => Ok(None),
     }
 }

@@ -1,45 +1,26 @@
 // A sheet's file: read to its end, shaped, held against a policy, and opened as a station.
+use super::files::read_or_tell;
 use super::kinds::{Kind, asked_kind};
-use super::{explain, policy_file, station_lines, words};
+use super::{explain, policy_file, station_lines};
 use admission::{Admitted, Question as Asked};
 use number::{Metres, Millimetres};
 use policy::Policy;
 use shaping::{Draft, Shaped};
 use sheet::{Refusal, Row, Table};
 use sheet_text::{Refusal as TextRefusal, read_sheet};
+use std::fmt::Display;
 use std::{fs, io};
 use typing::rules::node_type;
 
 // How many rows a sheet may have here.
 const ROOM: usize = 1024;
 
-const BLANK: Row = Row {
-    letter: '\0',
-    a: 0,
-    b: 0,
-    c: 0,
-    d: 0,
-    e: 0,
-};
-
-// The bytes of a file; none where it cannot be read, and why is told.
-fn load(rt: &HostRuntime, path: &str) -> io::Result<Option<Vec<u8>>> {
-    match fs::read(rt, path) {
-        Ok(bytes) => Ok(Some(bytes)),
-        Err(error) => {
-            eprintln!(rt; "formula_station: cannot read {path}: {error}")?;
-            Ok(None)
-        }
-    }
-}
-
 // Tells that a text was refused.
 fn tell_reading(rt: &HostRuntime, refusal: TextRefusal) -> io::Result<()> {
-    let question = refusal.question.number();
-    let row = refusal.row;
-    let why = words::of_text(refusal.question);
-    println!(rt; "reading refused {question} row {row}")?;
-    eprintln!(rt; "question {question}: {why} (row {row}, counted from 1)")
+    let TextRefusal { question, row } = refusal;
+    let number = question.number();
+    println!(rt; "reading refused {number} row {row}")?;
+    eprintln!(rt; "question {number}: {question} (row {row}, counted from 1)")
 }
 
 // A row as it would stand in a text.
@@ -56,16 +37,16 @@ fn print_text(rt: &HostRuntime, rows: &[Row], k: usize) -> io::Result<()> {
 }
 
 // Tells which question about a row was answered no, and shows the row.
-fn tell_row(
+fn tell_row<Q: Display + Drop>(
     rt: &HostRuntime,
     rows: &[Row],
     step: &str,
     number: u8,
-    why: &str,
-    row: usize,
+    refusal: Refusal<Q>,
 ) -> io::Result<()> {
+    let Refusal { question, row } = refusal;
     println!(rt; "{step} refused {number} row {row}")?;
-    eprintln!(rt; "question {number}: {why}")?;
+    eprintln!(rt; "question {number}: {question}")?;
     print_text(rt, rows, row)
 }
 
@@ -80,7 +61,7 @@ fn tell_flow<P: Policy>(rt: &HostRuntime, policy: &P, set: usize, to: usize) -> 
 // Tells what the rule wanted of the row that was refused.
 fn tell_rule<P: Policy>(
     rt: &HostRuntime,
-    table: Table,
+    table: &Table,
     policy: &P,
     refusal: Refusal<Asked>,
 ) -> io::Result<()> {
@@ -111,14 +92,13 @@ fn tell_rule<P: Policy>(
 // Tells that a sheet was not admitted.
 fn tell_admission<P: Policy>(
     rt: &HostRuntime,
-    rows: &[Row],
+    table: &Table,
     policy: &P,
     refusal: Refusal<Asked>,
 ) -> io::Result<()> {
     let number = refusal.question.number();
-    let why = words::of_admission(refusal.question);
-    tell_row(rt, rows, "admission", number, why, refusal.row)?;
-    tell_rule(rt, Table::new(rows), policy, refusal)
+    tell_row(rt, table.rows, "admission", number, refusal)?;
+    tell_rule(rt, table, policy, refusal)
 }
 
 // Answers the calls of the input over an admitted sheet: whether a station was opened.
@@ -139,10 +119,10 @@ fn tell_counts(rt: &HostRuntime, shaped: &Shaped) -> io::Result<()> {
 
 // The rows of a file; none where they cannot be read, and why is told.
 pub fn read(rt: &HostRuntime, path: &str) -> anyhow::Result<Option<Vec<Row>>> {
-    let Some(bytes) = load(rt, path)? else {
+    let Some(bytes) = read_or_tell(rt, path, fs::read(rt, path))? else {
         return Ok(None);
     };
-    let mut table = vec![in rt.alloc(); BLANK; ROOM]?;
+    let mut table = vec![in rt.alloc(); Row::BLANK; ROOM]?;
     match read_sheet(&bytes, &mut table) {
         Ok(count) => {
             println!(rt; "read {count} rows")?;
@@ -161,8 +141,7 @@ pub fn shape<'a>(rt: &HostRuntime, rows: &'a [Row]) -> io::Result<Option<Shaped<
     let draft = Draft::new(rows);
     if let Err(refusal) = draft.check() {
         let number = refusal.question.number();
-        let why = words::of_shape(refusal.question);
-        tell_row(rt, rows, "shaping", number, why, refusal.row)?;
+        tell_row(rt, rows, "shaping", number, refusal)?;
         return Ok(None);
     }
     let shaped = draft.shape();
@@ -183,7 +162,7 @@ fn admit(rt: &HostRuntime, path: &str, policy: &str, calls: Option<Kind>) -> any
         return Ok(false);
     };
     if let Err(refusal) = admission::check(&shaped, &policy) {
-        tell_admission(rt, &rows, &policy, refusal)?;
+        tell_admission(rt, &shaped.table, &policy, refusal)?;
         return Ok(false);
     }
     let admitted = admission::admit(shaped, &policy);

@@ -1,15 +1,16 @@
 // An open station, and the answers to the calls of its seats, a line each.
 use super::call_lines::{Call, parse};
-use super::kinds::Worded;
-use super::words;
-use super::work::{Areas, new_areas, tell_report};
+use super::work::{new_areas, tell_report};
 use admission::Admitted;
 use evaluator::Report;
+use machine::WorkAreas;
+use number::Number;
 use sheet::Table;
 use station::{Question, Station};
+use std::fmt::Display;
 use std::io;
 use std::io::{BufRead, BufReader};
-use std::str::from_utf8;
+use std::str::{FromStr, from_utf8};
 
 // What a granted call gives.
 #[derive(Clone, Copy)]
@@ -30,25 +31,21 @@ fn tell_malformed(rt: &HostRuntime, line: &str) -> io::Result<()> {
 // Tells which question was answered no, and of what.
 fn tell_question(rt: &HostRuntime, question: Question, line: &str) -> io::Result<()> {
     let number = question.number();
-    let why = words::of_call(question);
     println!(rt; "refused {number}")?;
-    eprintln!(rt; "question {number}: {why}: {line}")
+    eprintln!(rt; "question {number}: {question}: {line}")
 }
 
 // Tells what a granted call gave.
-fn tell_granted<K: Worded>(rt: &HostRuntime, granted: Granted<K>) -> io::Result<()> {
+fn tell_granted<K: Number + Display>(rt: &HostRuntime, granted: Granted<K>) -> io::Result<()> {
     match granted {
         Granted::Posted => println!(rt; "granted"),
-        Granted::Number(number) => {
-            let number = number.shown(rt.alloc())?;
-            println!(rt; "number {number}")
-        }
+        Granted::Number(number) => println!(rt; "number {number}"),
         Granted::Ended(report) => tell_report(rt, report),
     }
 }
 
 // The label of the channel or the entry that a call names.
-fn owner<K: Worded>(table: Table, call: Call<K>) -> usize {
+fn owner<K: Number>(table: &Table, call: Call<K>) -> usize {
     match call {
         Call::Post { channel, .. } | Call::Read { channel, .. } => table.site_at(channel).label,
         Call::Run { entry, .. } => table.entry_at(entry).label,
@@ -56,9 +53,9 @@ fn owner<K: Worded>(table: Table, call: Call<K>) -> usize {
 }
 
 // Tells that a call was refused; where the seat is the wrong one, which is the right one.
-fn tell_refused<K: Worded>(
+fn tell_refused<K: Number>(
     rt: &HostRuntime,
-    table: Table,
+    table: &Table,
     call: Call<K>,
     question: Question,
     line: &str,
@@ -72,9 +69,9 @@ fn tell_refused<K: Worded>(
 }
 
 // Makes a call.
-fn make<K: Worded>(
+fn make<K: Number>(
     station: &mut Station<K>,
-    areas: &mut Areas<K>,
+    areas: &mut WorkAreas<K>,
     call: Call<K>,
 ) -> Result<Granted<K>, Question> {
     Ok(match call {
@@ -87,21 +84,21 @@ fn make<K: Worded>(
             Granted::Posted
         }
         Call::Read { seat, channel } => Granted::Number(station.read(seat, channel)?),
-        Call::Run { seat, entry, fuel } => {
-            let (pending, bound, held) = areas.lent();
-            Granted::Ended(station.run(seat, entry, fuel, pending, bound, held)?)
-        }
+        Call::Run { seat, entry, fuel } => Granted::Ended(station.run(seat, entry, fuel, areas)?),
     })
 }
 
 // Answers one line.
-fn answer<K: Worded>(
+fn answer<K: Number + Display + FromStr>(
     rt: &HostRuntime,
-    table: Table,
+    table: &Table,
     station: &mut Station<K>,
-    areas: &mut Areas<K>,
+    areas: &mut WorkAreas<K>,
     line: &str,
-) -> io::Result<()> {
+) -> io::Result<()>
+where
+    K::Err: Drop,
+{
     if line.trim().is_empty() {
         return Ok(());
     }
@@ -116,12 +113,16 @@ fn answer<K: Worded>(
 
 // Answers the lines of the input, each before the next is read. Bytes that are no text stand as words
 // that are no call.
-fn answers<K: Worded + Drop>(
+fn answers<K: Number + Display + FromStr + Drop>(
     rt: &HostRuntime,
-    table: Table,
+    table: &Table,
     station: &mut Station<K>,
-) -> anyhow::Result<()> {
+) -> anyhow::Result<()>
+where
+    K::Err: Drop,
+{
     let mut areas = new_areas::<K>(rt.alloc())?;
+    let mut areas = areas.lent();
     for line in BufReader::new(rt.alloc(), rt.stdin())?.split(rt.alloc(), b'\n') {
         let line = line?;
         let line = from_utf8(&line).unwrap_or("(no text)");
@@ -132,8 +133,14 @@ fn answers<K: Worded + Drop>(
 
 // Opens a station over an admitted sheet, with a place for each site, and answers the calls of the
 // input: whether it was opened.
-pub fn serve<K: Worded + Drop>(rt: &HostRuntime, sheet: Admitted) -> anyhow::Result<bool> {
-    let table = Table::new(sheet.rows);
+pub fn serve<K: Number + Display + FromStr + Drop>(
+    rt: &HostRuntime,
+    sheet: Admitted,
+) -> anyhow::Result<bool>
+where
+    K::Err: Drop,
+{
+    let table = sheet.shaped.table;
     let mut channels = vec![in rt.alloc(); K::from_whole(0); table.sites]?;
     let places: &mut [K] = &mut channels;
     if let Err(question) = Station::check(&sheet, places) {
@@ -141,6 +148,6 @@ pub fn serve<K: Worded + Drop>(rt: &HostRuntime, sheet: Admitted) -> anyhow::Res
         return Ok(false);
     }
     let mut station = Station::open(sheet, places);
-    answers(rt, table, &mut station)?;
+    answers(rt, &table, &mut station)?;
     Ok(true)
 }

@@ -1,11 +1,13 @@
 // Trials of a shaped sheet's entries, a line each.
-use super::kinds::{Kind, Worded, asked_kind};
+use super::kinds::{Kind, asked_kind};
 use super::numerals::natural;
 use super::sheet_file;
-use super::work::{Areas, new_areas, tell_report};
+use super::work::{new_areas, tell_report};
 use evaluator::trial;
-use number::{Metres, Millimetres};
+use machine::WorkAreas;
+use number::{Metres, Millimetres, Number};
 use shaping::Shaped;
+use std::fmt::Display;
 use std::io;
 use std::io::{BufRead, BufReader};
 
@@ -24,31 +26,30 @@ fn parse(line: &str) -> Option<(usize, usize)> {
 }
 
 // Answers one line.
-fn answer<K: Worded>(
+fn answer<K: Number + Display>(
     rt: &HostRuntime,
     shaped: &Shaped,
-    areas: &mut Areas<K>,
+    areas: &mut WorkAreas<K>,
     line: &str,
 ) -> io::Result<()> {
     let Some((entry, fuel)) = parse(line) else {
         println!(rt; "malformed")?;
         return eprintln!(rt; "a trial is 'trial ENTRY FUEL': {line}");
     };
-    let (pending, bound, held) = areas.lent();
-    match trial(shaped, entry, fuel, pending, bound, held) {
+    match trial(shaped, entry, fuel, areas) {
         Ok(report) => tell_report(rt, report),
         Err(refusal) => {
-            let question = refusal.number();
-            let why = super::words::of_trial(refusal);
-            println!(rt; "refused {question}")?;
-            eprintln!(rt; "question {question}: {why}")
+            let number = refusal.number();
+            println!(rt; "refused {number}")?;
+            eprintln!(rt; "question {number}: {refusal}")
         }
     }
 }
 
 // Answers the lines of the input.
-fn answers<K: Worded + Drop>(rt: &HostRuntime, shaped: &Shaped) -> anyhow::Result<()> {
+fn answers<K: Number + Display + Drop>(rt: &HostRuntime, shaped: &Shaped) -> anyhow::Result<()> {
     let mut areas = new_areas::<K>(rt.alloc())?;
+    let mut areas = areas.lent();
     for line in BufReader::new(rt.alloc(), rt.stdin())?.lines(rt.alloc()) {
         let line = line?;
         if !line.trim().is_empty() {

@@ -1,24 +1,28 @@
 // Work areas of full size for runs, and what a run tells.
-use super::kinds::Worded;
 use evaluation::{Ending, Stop};
 use evaluator::Report;
-use machine::{Binding, Cell, Frame, Stage, Value};
+use machine::{Binding, Cell, Frame, Stage, Value, WorkAreas};
 use number::Number;
 use std::alloc::{AllocError, Global};
+use std::fmt::Display;
 use std::io;
 
 // The work areas of a run.
 #[derive(Drop)]
 pub struct Areas<K> {
-    pub pending: Vec<Frame<K>>,
-    pub bound: Vec<Binding<K>>,
-    pub held: Vec<Cell<K>>,
+    pending: Vec<Frame<K>>,
+    bound: Vec<Binding<K>>,
+    held: Vec<Cell<K>>,
 }
 
 impl<K> Areas<K> {
     // The areas as a run takes them.
-    pub fn lent(&mut self) -> (&mut [Frame<K>], &mut [Binding<K>], &mut [Cell<K>]) {
-        (&mut self.pending, &mut self.bound, &mut self.held)
+    pub fn lent(&mut self) -> WorkAreas<'_, K> {
+        WorkAreas {
+            pending: &mut self.pending,
+            bound: &mut self.bound,
+            held: &mut self.held,
+        }
     }
 }
 
@@ -43,9 +47,9 @@ pub fn new_areas<K: Number>(heap: Global) -> Result<Areas<K>, AllocError> {
 }
 
 // Tells how a run ended.
-pub fn tell_report<K: Worded>(rt: &HostRuntime, report: Report<K>) -> io::Result<()> {
+pub fn tell_report<K: Number + Display>(rt: &HostRuntime, report: Report<K>) -> io::Result<()> {
     let ending = report.ending.number();
-    let number = report.number.shown(rt.alloc())?;
+    let number = report.number;
     let steps = report.steps;
     match report.ending {
         Ending::Stopped(Stop::Stuck { node }) => {
