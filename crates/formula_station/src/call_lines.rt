@@ -22,7 +22,7 @@ pub enum Call<K> {
 }
 
 // The call that a text says.
-pub fn parse<K: FromStr>(text: &str) -> Option<Call<K>>
+pub(crate) fn parse<K: FromStr>(text: &str) -> Option<Call<K>>
 where
     K::Err: Drop,
 {

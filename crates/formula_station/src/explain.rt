@@ -6,7 +6,7 @@ use typing::fitting::fit;
 use typing::rules::node_type;
 
 // The first label of the set that may not flow to a label.
-pub fn barred<P: Policy>(policy: &P, set: usize, to: usize) -> Option<u32> {
+pub(crate) fn barred<P: Policy>(policy: &P, set: usize, to: usize) -> Option<u32> {
     (0..policy.labels()).find(|from| {
         let flows = u32::try_from(to).is_ok_and(|to| policy.may_flow(*from, to));
         has(*from as usize, set) && !flows
@@ -104,7 +104,7 @@ fn operation(first: TypeRow, second: TypeRow, own: TypeRow) -> &'static str {
 }
 
 // The clause of its type rule that node i breaks.
-pub fn type_rule(table: &Table, i: usize) -> &'static str {
+pub(crate) fn type_rule(table: &Table, i: usize) -> &'static str {
     let x = table.node_at(i);
     let own = table.type_at(x.ty);
     let end = i.saturating_sub(1);
@@ -129,7 +129,7 @@ pub fn type_rule(table: &Table, i: usize) -> &'static str {
 }
 
 // The clause of its control rule that node i breaks.
-pub fn control_rule(table: &Table, i: usize) -> &'static str {
+pub(crate) fn control_rule(table: &Table, i: usize) -> &'static str {
     match table.node_at(i).kind {
         Kind::Lambda => "the body's control set does not contain the function type's effect set",
         Kind::Choice => {

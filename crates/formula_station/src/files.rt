@@ -2,7 +2,11 @@
 use std::io;
 
 // What was read of a file; none where it cannot be read, and why is told.
-pub fn read_or_tell<T>(rt: &HostRuntime, path: &str, read: io::Result<T>) -> io::Result<Option<T>> {
+pub(crate) fn read_or_tell<T>(
+    rt: &HostRuntime,
+    path: &str,
+    read: io::Result<T>,
+) -> io::Result<Option<T>> {
     match read {
         Ok(content) => Ok(Some(content)),
         Err(error) => {

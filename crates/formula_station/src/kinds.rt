@@ -28,7 +28,7 @@ impl FromStr for Kind {
 }
 
 // The kind that a command's word names; none where it names none, and why is told.
-pub fn asked_kind(rt: &HostRuntime, word: &str) -> io::Result<Option<Kind>> {
+pub(crate) fn asked_kind(rt: &HostRuntime, word: &str) -> io::Result<Option<Kind>> {
     match word.parse::<Kind>() {
         Ok(kind) => Ok(Some(kind)),
         Err(error) => {

@@ -32,7 +32,7 @@ fn print_relation<P: Policy>(rt: &HostRuntime, policy: &P) -> io::Result<()> {
 }
 
 // Shows the relation of the policy in a file: whether there is one.
-pub fn show(rt: &HostRuntime, path: &str) -> anyhow::Result<bool> {
+pub(crate) fn show(rt: &HostRuntime, path: &str) -> anyhow::Result<bool> {
     let Some(policy) = policy_file::open(rt, path)? else {
         return Ok(false);
     };

@@ -109,7 +109,7 @@ fn read(rt: &HostRuntime, text: &str) -> io::Result<Option<Narrowed<Listed>>> {
 }
 
 // The policy of a file; none where it was not read to its end, and why is told.
-pub fn open(rt: &HostRuntime, path: &str) -> io::Result<Option<Narrowed<Listed>>> {
+pub(crate) fn open(rt: &HostRuntime, path: &str) -> io::Result<Option<Narrowed<Listed>>> {
     match read_or_tell(rt, path, fs::read_to_string(rt, path))? {
         Some(text) => read(rt, &text),
         None => Ok(None),

@@ -44,7 +44,7 @@ fn line_of(keyword: &str, first: usize, second: Option<usize>) -> Option<Line> {
 }
 
 // The line that this text is; none where it is malformed.
-pub fn parse(text: &str) -> Option<Line> {
+pub(crate) fn parse(text: &str) -> Option<Line> {
     let mut words = text.split_whitespace();
     let keyword = words.next()?;
     let first = natural(words.next()?)?;

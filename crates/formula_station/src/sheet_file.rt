@@ -118,7 +118,7 @@ fn tell_counts(rt: &HostRuntime, shaped: &Shaped) -> io::Result<()> {
 }
 
 // The rows of a file; none where they cannot be read, and why is told.
-pub fn read(rt: &HostRuntime, path: &str) -> anyhow::Result<Option<Vec<Row>>> {
+pub(crate) fn read(rt: &HostRuntime, path: &str) -> anyhow::Result<Option<Vec<Row>>> {
     let Some(bytes) = read_or_tell(rt, path, fs::read(rt, path))? else {
         return Ok(None);
     };
@@ -137,7 +137,7 @@ pub fn read(rt: &HostRuntime, path: &str) -> anyhow::Result<Option<Vec<Row>>> {
 }
 
 // The sheet of the rows; none where it has no lawful shape, and why is told.
-pub fn shape<'a>(rt: &HostRuntime, rows: &'a [Row]) -> io::Result<Option<Shaped<'a>>> {
+pub(crate) fn shape<'a>(rt: &HostRuntime, rows: &'a [Row]) -> io::Result<Option<Shaped<'a>>> {
     let draft = Draft::new(rows);
     if let Err(refusal) = draft.check() {
         let number = refusal.question.number();
@@ -174,13 +174,13 @@ fn admit(rt: &HostRuntime, path: &str, policy: &str, calls: Option<Kind>) -> any
 }
 
 // Reads a sheet, shapes it and holds it against a policy: whether everything was granted.
-pub fn check(rt: &HostRuntime, path: &str, policy: &str) -> anyhow::Result<bool> {
+pub(crate) fn check(rt: &HostRuntime, path: &str, policy: &str) -> anyhow::Result<bool> {
     admit(rt, path, policy, None)
 }
 
 // Does what a check does, opens a station over the sheet where it is admitted, and answers the calls of
 // the input: whether the sheet was granted.
-pub fn run(rt: &HostRuntime, path: &str, policy: &str, kind: &str) -> anyhow::Result<bool> {
+pub(crate) fn run(rt: &HostRuntime, path: &str, policy: &str, kind: &str) -> anyhow::Result<bool> {
     let Some(kind) = asked_kind(rt, kind)? else {
         return Ok(false);
     };

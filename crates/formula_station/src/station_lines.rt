@@ -133,7 +133,7 @@ where
 
 // Opens a station over an admitted sheet, with a place for each site, and answers the calls of the
 // input: whether it was opened.
-pub fn serve<K: Number + Display + FromStr + Drop>(
+pub(crate) fn serve<K: Number + Display + FromStr + Drop>(
     rt: &HostRuntime,
     sheet: Admitted,
 ) -> anyhow::Result<bool>

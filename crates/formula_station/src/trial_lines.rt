@@ -60,7 +60,7 @@ fn answers<K: Number + Display + Drop>(rt: &HostRuntime, shaped: &Shaped) -> any
 }
 
 // Reads and shapes a sheet, and tries its entries as the input says: whether the sheet was granted.
-pub fn run(rt: &HostRuntime, path: &str, kind: &str) -> anyhow::Result<bool> {
+pub(crate) fn run(rt: &HostRuntime, path: &str, kind: &str) -> anyhow::Result<bool> {
     let Some(kind) = asked_kind(rt, kind)? else {
         return Ok(false);
     };

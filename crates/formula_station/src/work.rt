@@ -17,7 +17,7 @@ pub struct Areas<K> {
 
 impl<K> Areas<K> {
     // The areas as a run takes them.
-    pub fn lent(&mut self) -> WorkAreas<'_, K> {
+    pub(crate) fn lent(&mut self) -> WorkAreas<'_, K> {
         WorkAreas {
             pending: &mut self.pending,
             bound: &mut self.bound,
@@ -27,7 +27,7 @@ impl<K> Areas<K> {
 }
 
 // Work areas of the lengths that are enough for every sheet.
-pub fn new_areas<K: Number>(heap: Global) -> Result<Areas<K>, AllocError> {
+pub(crate) fn new_areas<K: Number>(heap: Global) -> Result<Areas<K>, AllocError> {
     let frame = Frame {
         node: 0,
         scope: 0,
@@ -47,7 +47,10 @@ pub fn new_areas<K: Number>(heap: Global) -> Result<Areas<K>, AllocError> {
 }
 
 // Tells how a run ended.
-pub fn tell_report<K: Number + Display>(rt: &HostRuntime, report: Report<K>) -> io::Result<()> {
+pub(crate) fn tell_report<K: Number + Display>(
+    rt: &HostRuntime,
+    report: Report<K>,
+) -> io::Result<()> {
     let ending = report.ending.number();
     let number = report.number;
     let steps = report.steps;
