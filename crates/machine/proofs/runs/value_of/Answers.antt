@@ -58,7 +58,7 @@ loop-next-preserved-in_ok-next-in-Start g c =
       cells_places = c.loop-next.invariant.cells_places;
       rest =
           goes_start _ _ _ _ _ _ _ _ _ _ _ _ c.loop-next.invariant.rest
-    c.in-Start.node c.in-Start.scope (ap Ok c.in-Start.is) (Ok c.in_ok-next-in-Start.next) _ (c.in_ok-next-in-Start.ensures.step (cells g.K.Number.value (live c.loop-next.cells))) free.0 free.1;
+          c.in-Start.node c.in-Start.scope (ap Ok c.in-Start.is) (Ok c.in_ok-next-in-Start.next) _ (c.in_ok-next-in-Start.ensures.step (cells g.K.Number.value (live c.loop-next.cells))) free.0 free.1;
     }
 
 -- a value comes back
@@ -107,5 +107,5 @@ loop-next-preserved g c =
       cells_places = c.in_ok-next-in-Some.ensures.cells_area.places ∙ c.loop-next.invariant.cells_places;
       rest =
           goes_return _ _ _ _ _ _ _ _ _ _ _ _ c.loop-next.invariant.rest
-    c.in-Return.value (ap Ok c.in-Return.is) c.in-Some.frame _ _ popped (Ok c.in_ok-next-in-Some.next) _ _ _ (limits _ _ _ _ c.loop-next.invariant.bindings_places c.loop-next.invariant.cells_places) c.in_ok-next-in-Some.ensures.step (fewer _ _ c.in-Some.frame _ popped fits);
+          c.in-Return.value (ap Ok c.in-Return.is) c.in-Some.frame _ _ popped (Ok c.in_ok-next-in-Some.next) _ _ _ (limits _ _ _ _ c.loop-next.invariant.bindings_places c.loop-next.invariant.cells_places) c.in_ok-next-in-Some.ensures.step (fewer _ _ c.in-Some.frame _ popped fits);
     }
