@@ -1,5 +1,5 @@
 -- Elements looked up by place, after an append.
-use Rattle.std.proofs.Common.{◌≡◌, ℕ, zero, suc, ◌<◌, List, [], ◌∷◌, ◌++◌, length, Some, refl, arith}
+use Rattle.std.proofs.Common.{◌≡◌, ℕ, zero, suc, List, [], ◌∷◌, ◌++◌, length, Some, refl, arith}
 use Rattle.std.specs.List.{slice_get}
 
 module _ {A : Type 0} where
@@ -13,9 +13,3 @@ module _ {A : Type 0} where
   pub get_new : (l : List A) (b : A) → slice_get (l ++ b ∷ []) (length l) ≡ Some b
   get_new [] b = refl
   get_new (x ∷ l) b = get_new l b
-
-  -- an element that is there is in range
-  pub get_below : (l : List A) (i : ℕ) (a : A) → slice_get l i ≡ Some a → i < length l
-  get_below [] i a h = let z : ◌≡◌ {A = ℕ} 0 1 = cc in absurd (omega arith)
-  get_below (x ∷ l) zero a h = omega arith
-  get_below (x ∷ l) (suc i) a h = let k : i < length l = get_below l i a h in omega arith

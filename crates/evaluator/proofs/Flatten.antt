@@ -1,6 +1,7 @@
 -- The evaluation over flat state ends as the evaluation does: same ending, node and steps, and a word that carries the value.
 use Rattle.std.proofs.Common.{◌≡◌, ℕ, zero, suc, ◌+◌, ◌<◌, ◌≤◌, Bool, true, false, cond, eqb, ltb, List, [], ◌∷◌, ◌++◌, length, Some, None, Option, sym, refl, ap, ◌∙◌, subst, ap₂, arith}
 use Rattle.std.specs.List.{slice_get}
+use Rattle.std.proofs.lemmas.Option.{slice_get_within}
 use Rattle.number.specs.NumberKind.{NumberKind}
 use Rattle.number.specs.Millimetre.{clamp}
 use Rattle.sheet.specs.declared.decoded.Kind.{Kind}
@@ -15,7 +16,7 @@ use Rattle.machine.specs.declared.values.Binding.{Binding}
 use Rattle.machine.specs.declared.values.Cell.{Cell as Slot}
 use Rattle.machine.specs.Flat.{FlatState, FlatOutcome, flat_done, flat_stopped, FlatEvaluator, seek, flat_then, flat_provided, with_cells as with_slots, one_step as flat_step, one_more, flat_found, flat_loaded, flat_load, flat_stored, flat_store, flat_apply, flat_create, flat_choose, flat_operate, flat_by_kind, flat_eval}
 use Rattle.evaluator.specs.Runs.{limits}
-use Rattle.evaluator.proofs.Cells.{get_old, get_new, get_below}
+use Rattle.evaluator.proofs.Cells.{get_old, get_new}
 use Rattle.evaluator.proofs.Carry.{Carries, CarriesEnvironment, Stay, value_stays, environment_stays, Finds, seek_finds, Slots, SlotAt, slots_at, slots_length, slots_set, slots_append, slots_stay}
 
 pub record Sim {V : Type 0} (s : State V) (t : FlatState V) : Type 0 where
@@ -63,7 +64,7 @@ module _ {V : Type 0} where
   place_below bs empty k c = let e : k ≡ 0 = c in omega arith
   place_below bs (bind f v ρ) k c =
       let e : k ≡ suc c.0 = c.2 in
-      let l : c.0 < length bs = get_below bs c.0 c.1 c.3 in
+      let l : c.0 < length bs = slice_get_within bs c.0 c.1 c.3 in
       omega arith
 
   sim_answer : (i : ℕ) (s : State V) (t : FlatState V) (o : Option (Value V)) (p : Option (Word V)) → Finds t.made o p → Sim s t

@@ -11,6 +11,10 @@ use Rattle.evaluation.specs.Runs.{written, numbers_after, run}
 use Rattle.station.specs.Calls.{Call, post, read, run_entry, refusal_of, after, after_by, area_after_run, is_channel, opened, zero_number}
 
 module _ {V : Type 0} where
+  -- what stands in two options that are the same
+  pub some_same : (x y : V) → Some x ≡ Some y → x ≡ y
+  some_same x y e = cc
+
   length_written : (cs : List (Cell V)) (ns : List V) → length (written cs ns) ≡ length ns
   length_written cs [] = refl
   length_written [] (n ∷ ns) = refl

@@ -14,7 +14,7 @@ use Rattle.station.specs.declared.question.Question.{Question}
 use Rattle.station.specs.Calls.{Call, post, read, run_entry, seat_of, Answer, told, ended, refusal_of, answer, answer_by, after, after_by, area_after_run, is_channel, zero_number}
 use Rattle.station.specs.Histories.{ending_of, without_steps}
 use Rattle.station.proofs.Assured.{Assured, Agree, SeenBy, EndsWell, BothAgree}
-use Rattle.station.proofs.Areas.{length_sites, getD_run, getD_sites, channel_site}
+use Rattle.station.proofs.Areas.{some_same, length_sites, getD_run, getD_sites, channel_site}
 use Rattle.station.proofs.Alone.{channel_granted, run_granted}
 
 -- the reason for stopping that a number says
@@ -56,10 +56,6 @@ module _ (M : NumberKind) (S : Sheet) (O : ℕ → Bool) (e : ℕ) (z : M.Value)
   alike_outcomes (stopped x t) (stopped y u) ns ns' w w' n agree both =
       let same : x ≡ y = same_number M.Value x t w ∙ ap by_number n ∙ sym (same_number M.Value y u w') in
       (agree, λ seen. ap (λ r. ended (record { ending = Stopped r; number = z; steps = 0 })) same)
-
--- the numbers of two endings, out of what is told of them
-some_same : (m n : ℕ) → Some m ≡ Some n → m ≡ n
-some_same m n e = cc
 
 module _ (M : NumberKind) (S : Sheet) (flows : ℕ → ℕ → Bool) (sure : Assured M S flows) (b : ℕ) where
   abbrev Sees : ℕ → Bool

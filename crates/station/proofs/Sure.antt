@@ -13,7 +13,7 @@ use Rattle.guarantees.specs.Sheets.{Channel, Visible}
 use Rattle.guarantees.specs.Promises.{EndsSoundly, ChannelsAgree, Soundness, Confinement, TwoRuns}
 use Rattle.station.specs.Calls.{is_channel, zero_number}
 use Rattle.station.proofs.Assured.{Assured, Agree, EndsWell, BothAgree}
-use Rattle.station.proofs.Areas.{channel_site, length_after}
+use Rattle.station.proofs.Areas.{some_same, channel_site, length_after}
 
 -- a channel, as a test and as a fact
 channel_is : (S : Sheet) (s : ℕ) → is_channel S s ≡ true → Channel S s
@@ -23,9 +23,6 @@ is_one : (S : Sheet) (s : ℕ) → Channel S s → is_channel S s ≡ true
 is_one S s h = let a = h.0 in let b = h.1 in grind (arith, nat_tests)
 
 -- the same number at a place, by either way of reading it
-some_same : {V : Type 0} (x y : V) → Some x ≡ Some y → x ≡ y
-some_same x y e = cc
-
 module _ {V : Type 0} (xs ys : List V) (i : ℕ) (d : V) (h : i < length xs) (k : i < length ys) where
   by_nth : slice_get xs i ≡ slice_get ys i → get_or xs i d ≡ get_or ys i d
   by_nth e = some_same (get_or xs i d) (get_or ys i d) (sym (slice_get-get_or xs i d h) ∙ e ∙ slice_get-get_or ys i d k)
