@@ -48,12 +48,9 @@ pub(crate) fn parse(text: &str) -> Option<Line> {
     let mut words = text.split_whitespace();
     let keyword = words.next()?;
     let first = natural(words.next()?)?;
-    let second = match words.next() {
-        Some(word) => Some(natural(word)?),
-        None => None,
-    };
-    match words.next() {
-        Some(_) => None,
-        None => line_of(keyword, first, second),
+    match (words.next(), words.next()) {
+        (None, _) => line_of(keyword, first, None),
+        (Some(second), None) => line_of(keyword, first, Some(natural(second)?)),
+        _ => None,
     }
 }
