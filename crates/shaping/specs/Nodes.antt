@@ -4,6 +4,7 @@ use Rattle.sheet.specs.declared.decoded.NodeRow.{NodeRow}
 use Rattle.sheet.specs.declared.decoded.Kind.{Kind}
 use Rattle.sheet.specs.declared.decoded.Kind.TheVariants.{Literal, Variable, Lambda, Application, New, Channel, Read, Write, Choice, Operation, Unknown}
 use Rattle.sheet.specs.declared.decoded.Flag.{Flag}
+use Rattle.sheet.specs.declared.decoded.Flag.TheVariants as flag
 use Rattle.sheet.specs.Sheet.{Sheet, is_fresh, is_channel, parts_of}
 use Rattle.sheet.specs.Sets.{set_below}
 
@@ -11,6 +12,14 @@ use Rattle.sheet.specs.Sets.{set_below}
 abbrev pub literal_fits : ℤ → Bool
 literal_fits (pos n) = nat_lt n 2147483648
 literal_fits (negsuc n) = nat_lt n 2147483648
+
+-- the flag is the one given
+abbrev pub has_flag : Flag → Flag → Bool
+has_flag flag.Fresh f = is_fresh f
+has_flag flag.Channel f = is_channel f
+has_flag flag.Unknown flag.Fresh = false
+has_flag flag.Unknown flag.Channel = false
+has_flag flag.Unknown flag.Unknown = true
 
 -- site s exists, and its flag passes the test
 abbrev pub site_flagged : Sheet → (Flag → Bool) → ℕ → Bool

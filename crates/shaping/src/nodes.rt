@@ -1,6 +1,6 @@
 ghost use Rattle.std.specs.Prelude.{◌≡◌};
-ghost use Rattle.sheet.specs.Sheet.{is_channel, is_fresh, view};
-ghost use Rattle.shaping.specs.Nodes.{literal_fits, site_flagged, lawful_argument, parts_begin, sized, lawful_node, bound};
+ghost use Rattle.sheet.specs.Sheet.{view};
+ghost use Rattle.shaping.specs.Nodes.{literal_fits, site_flagged, has_flag, lawful_argument, parts_begin, sized, lawful_node, bound};
 
 use sheet::sets::set_below;
 use sheet::{Flag, Kind, NodeRow, Table};
@@ -22,18 +22,11 @@ fn sized(i: usize, size: usize, from: Option<usize>) -> bool
     }
 }
 
-// Site s exists, and a run makes its cells.
-fn is_fresh_site(table: &Table, s: usize) -> bool
-    ensures { result ≡ site_flagged (view table.now.rows.now) is_fresh s }
+// Site s exists, and has this flag.
+fn is_flagged(table: &Table, s: usize, flag: Flag) -> bool
+    ensures { result ≡ site_flagged (view table.now.rows.now) (has_flag flag) s }
 {
-    s < table.sites && table.site_at(s).flag == Flag::Fresh
-}
-
-// Site s exists, and is a channel.
-fn is_channel_site(table: &Table, s: usize) -> bool
-    ensures { result ≡ site_flagged (view table.now.rows.now) is_channel s }
-{
-    s < table.sites && table.site_at(s).flag == Flag::Channel
+    s < table.sites && table.site_at(s).flag == flag
 }
 
 // The argument is one that a node of this kind may have.
@@ -43,8 +36,8 @@ fn lawful_argument(table: &Table, x: NodeRow) -> bool
     match x.kind {
         Kind::Literal => literal_fits(x.literal),
         Kind::Variable => x.argument < table.nodes,
-        Kind::New => is_fresh_site(table, x.argument),
-        Kind::Channel => is_channel_site(table, x.argument),
+        Kind::New => is_flagged(table, x.argument, Flag::Fresh),
+        Kind::Channel => is_flagged(table, x.argument, Flag::Channel),
         Kind::Operation => x.argument < 6,
         Kind::Lambda | Kind::Application | Kind::Read | Kind::Write | Kind::Choice => {
             x.argument == 0

@@ -51,7 +51,6 @@ impl<'s, 'c, K: Number> Station<'s, 'c, K> {
         ensures { result ≡ verdict (first_refused (channel_questions (sheet_of self.now) (length self.now.channels.now) seat channel)) }
     {
         let table = &self.sheet.shaped.table;
-        Self::check(&self.sheet, self.channels)?;
         let site = table.site_at(channel);
         if channel >= table.sites || site.flag != Flag::Channel {
             return Err(Question::Target);
@@ -95,7 +94,6 @@ impl<'s, 'c, K: Number> Station<'s, 'c, K> {
         ensures { result ≡ verdict (first_refused (run_questions (sheet_of self.now) (length self.now.channels.now) seat entry fuel (length areas.now.pending.now) (length areas.now.bound.now) (length areas.now.held.now))) }
     {
         let table = &self.sheet.shaped.table;
-        Self::check(&self.sheet, self.channels)?;
         if entry >= table.entries {
             return Err(Question::Target);
         }

@@ -1,3 +1,6 @@
+ghost use Rattle.std.specs.Prelude.{◌≤◌, length};
+ghost use Rattle.sheet.specs.Sheet.{view};
+
 use admission::Admitted;
 
 // An admitted sheet over a channel area that is lent: its first places are the sites', and the others
@@ -6,4 +9,5 @@ use admission::Admitted;
 pub struct Station<'s, 'c, K> {
     pub(crate) sheet: Admitted<'s>,
     pub(crate) channels: &'c mut [K],
+    ghost room: { (view sheet.shaped.table.rows.now).sites ≤ length channels.now },
 }

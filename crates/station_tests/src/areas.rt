@@ -1,4 +1,4 @@
-use super::play::{Scenario, play};
+use super::play::play;
 use evaluator::Report;
 use machine::{Binding, Cell, Frame, Stage, Value, WorkAreas};
 use number::Millimetres;
@@ -6,35 +6,21 @@ use station::{Question, Station};
 use std::process::Abort;
 use std::test::*;
 
-// Nothing is called.
-#[derive(Drop)]
-struct Nothing;
-
-impl Scenario for Nothing {
-    fn perform(&self, _rt: &impl Abort, _station: &mut Station<Millimetres>) -> Result<(), Fail> {
-        Ok(())
-    }
-}
-
 // An opening over so many places, at most five: the number of its refusal.
-fn opened(rt: &impl Abort, places: usize) -> Result<u8, Fail> {
+fn opened(places: usize) -> Result<u8, Fail> {
     let mut channels = [Millimetres { count: 9 }; 5];
-    play(rt, &mut channels[0..places.min(5)], &Nothing)
+    play(&mut channels[0..places.min(5)], |_| Ok(()))
 }
 
 // Three sites, so three places.
 #[test]
 fn opening_asks_for_a_place_for_each_site(rt: HostRuntime) -> Result<(), Fail> {
-    assert_eq!(rt; opened(&rt, 0)?, 41);
-    assert_eq!(rt; opened(&rt, 2)?, 41);
-    assert_eq!(rt; opened(&rt, 3)?, 0);
-    assert_eq!(rt; opened(&rt, 5)?, 0);
+    assert_eq!(rt; opened(0)?, 41);
+    assert_eq!(rt; opened(2)?, 41);
+    assert_eq!(rt; opened(3)?, 0);
+    assert_eq!(rt; opened(5)?, 0);
     Ok(())
 }
-
-// Runs that are refused, by 42 to 45, over areas with a mark in each place.
-#[derive(Drop)]
-struct RefusedRuns;
 
 fn number_of(answer: Result<Report<Millimetres>, Question>) -> u8 {
     match answer {
@@ -76,34 +62,33 @@ fn marked(rt: &impl Abort, areas: &WorkAreas<Millimetres>) -> Result<(), Fail> {
     Ok(())
 }
 
-impl Scenario for RefusedRuns {
-    fn perform(&self, rt: &impl Abort, station: &mut Station<Millimetres>) -> Result<(), Fail> {
-        let value: Value<Millimetres> = Value::Reference(77);
-        let stage: Stage<Millimetres> = Stage::Passes;
-        let mut pending = [Frame {
-            node: 77,
-            scope: 77,
-            stage,
-        }; 1024];
-        let mut bound = [Binding {
-            function: 77,
-            value,
-            outer: 77,
-        }; 1024];
-        let mut held = [Cell { site: 77, value }; 544];
-        let mut areas = WorkAreas {
-            pending: &mut pending,
-            bound: &mut bound,
-            held: &mut held,
-        };
-        refuse(rt, station, &mut areas)?;
-        marked(rt, &areas)
-    }
+// Runs that are refused, by 42 to 45, over areas with a mark in each place.
+fn refused_runs(rt: &impl Abort, station: &mut Station<Millimetres>) -> Result<(), Fail> {
+    let value: Value<Millimetres> = Value::Reference(77);
+    let stage: Stage<Millimetres> = Stage::Passes;
+    let mut pending = [Frame {
+        node: 77,
+        scope: 77,
+        stage,
+    }; 1024];
+    let mut bound = [Binding {
+        function: 77,
+        value,
+        outer: 77,
+    }; 1024];
+    let mut held = [Cell { site: 77, value }; 544];
+    let mut areas = WorkAreas {
+        pending: &mut pending,
+        bound: &mut bound,
+        held: &mut held,
+    };
+    refuse(rt, station, &mut areas)?;
+    marked(rt, &areas)
 }
 
 #[test]
 fn refused_runs_leave_the_areas_as_they_were(rt: HostRuntime) -> Result<(), Fail> {
     let mut channels = [Millimetres { count: 9 }; 3];
-    assert_eq!(rt; play(&rt, &mut channels, &RefusedRuns)?, 0);
+    assert_eq!(rt; play(&mut channels, |station| refused_runs(&rt, station))?, 0);
     Ok(())
 }

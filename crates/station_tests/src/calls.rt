@@ -1,5 +1,5 @@
 use super::play::Call::{Post, Read, Run};
-use super::play::{Call, Script, Told, play};
+use super::play::{Call, Told, play, script};
 use number::Millimetres;
 use std::process::Abort;
 use std::test::*;
@@ -21,7 +21,7 @@ const REFUSED_45: Told = (45, 0, 0);
 // the five hold in the end.
 fn left(rt: &impl Abort, calls: &[(Call, Told)], counts: [i32; 5]) -> Result<(), Fail> {
     let mut channels = [Millimetres { count: 9 }; 5];
-    assert_eq!(rt; play(rt, &mut channels, &Script { calls })?, 0);
+    assert_eq!(rt; play(&mut channels, |station| script(rt, station, calls))?, 0);
     assert_eq!(rt; channels[0].count, counts[0]);
     assert_eq!(rt; channels[1].count, counts[1]);
     assert_eq!(rt; channels[2].count, counts[2]);

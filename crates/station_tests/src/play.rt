@@ -127,43 +127,36 @@ fn walk(
     Ok(())
 }
 
-// What is done with a station once it is open.
-pub(crate) trait Scenario {
-    fn perform(&self, rt: &impl Abort, station: &mut Station<Millimetres>) -> Result<(), Fail>;
-}
-
-// Calls to make one by one, each with what it must tell.
-#[derive(Drop)]
-pub(crate) struct Script<'a> {
-    pub(crate) calls: &'a [(Call, Told)],
-}
-
-impl Scenario for Script<'_> {
-    fn perform(&self, rt: &impl Abort, station: &mut Station<Millimetres>) -> Result<(), Fail> {
-        let value: Value<Millimetres> = Value::Reference(0);
-        let stage: Stage<Millimetres> = Stage::Passes;
-        let mut pending = [Frame {
-            node: 0,
-            scope: 0,
-            stage,
-        }; 1030];
-        let mut bound = [Binding {
-            function: 0,
-            value,
-            outer: 0,
-        }; 1030];
-        let mut held = [Cell { site: 0, value }; 550];
-        walk(rt, station, self.calls, &mut pending, &mut bound, &mut held)
-    }
+// Makes the calls one by one, over work areas of its own.
+pub(crate) fn script(
+    rt: &impl Abort,
+    station: &mut Station<Millimetres>,
+    calls: &[(Call, Told)],
+) -> Result<(), Fail> {
+    let value: Value<Millimetres> = Value::Reference(0);
+    let stage: Stage<Millimetres> = Stage::Passes;
+    let mut pending = [Frame {
+        node: 0,
+        scope: 0,
+        stage,
+    }; 1030];
+    let mut bound = [Binding {
+        function: 0,
+        value,
+        outer: 0,
+    }; 1030];
+    let mut held = [Cell { site: 0, value }; 550];
+    walk(rt, station, calls, &mut pending, &mut bound, &mut held)
 }
 
 // Opens a station over the sheet and plays the scenario: the number of the question that the opening
 // is refused for, and 0 where it is opened.
-pub(crate) fn play<S: Scenario>(
-    rt: &impl Abort,
+pub(crate) fn play<F: FnOnce(&mut Station<Millimetres>) -> Result<(), Fail>>(
     channels: &mut [Millimetres],
-    scenario: &S,
-) -> Result<u8, Fail> {
+    scenario: F,
+) -> Result<u8, Fail>
+    requires { F.IsAlwaysCallable scenario }
+{
     let rows = sheet();
     let policy = in_steps()?;
     let draft = Draft::new(&rows);
@@ -179,6 +172,6 @@ pub(crate) fn play<S: Scenario>(
         return Ok(question.number());
     }
     let mut station = Station::open(admitted, channels);
-    scenario.perform(rt, &mut station)?;
+    scenario(&mut station)?;
     Ok(0)
 }
