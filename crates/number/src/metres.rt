@@ -7,6 +7,7 @@ use std::fmt;
 use std::num::ParseFloatError;
 use std::str::FromStr;
 
+/// A length in metres. `==` is that of IEEE 754: 0 and -0 are equal, and not-a-number equals nothing.
 #[derive(Clone, Copy, Debug, PartialEq)]
 pub struct Metres {
     pub length: f64,

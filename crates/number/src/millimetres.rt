@@ -8,6 +8,7 @@ use std::fmt;
 use std::num::ParseIntError;
 use std::str::FromStr;
 
+/// A length in whole millimetres.
 #[derive(Clone, Copy, Debug, PartialEq, Eq)]
 pub struct Millimetres {
     pub count: i32,

@@ -11,7 +11,8 @@ struct Clearance {
 }
 
 /// Each label has a rank and a set of compartments, member k adding 2^k. One label flows to another
-/// when its rank is at most the other's and its compartments are among the other's.
+/// when its rank is at most the other's and its compartments are among the other's. There is no heap here,
+/// so an array of the most labels holds them, and `count` tells how many there are.
 #[derive(Drop)]
 pub struct Clearances {
     count: u32,

@@ -68,27 +68,29 @@ fn check_label(label: u32, labels: u32) -> Result<(), Refusal>
 
 /// A flow relation over labels 0, 1, .. below `size`. Nothing completes it: two pairs imply no third.
 pub trait Policy {
-    // How many labels there are.
+    /// How many labels there are.
     ghost size: { Self → ℕ };
 
-    // Whether the first label may flow to the second.
+    /// Whether the first label may flow to the second.
     ghost flows: { Self → ℕ → ℕ → Bool };
 
+    /// The number of labels.
     fn labels(&self) -> u32
         ensures { result ≡ size self.now };
 
+    /// Whether label a may flow to label b.
     fn may_flow(&self, a: u32, b: u32) -> bool
         ensures { result ≡ flows self.now a b };
 
-    // There are 1 to 32 labels.
+    /// There are 1 to 32 labels.
     ghost counted: { (p : Self) → (1 ≤ size p) × (size p ≤ 32) };
 
-    // Every label flows to itself.
+    /// Every label flows to itself.
     ghost reflexive: { (p : Self) (a : ℕ) → a < size p → flows p a a ≡ true };
 
-    // No pair starts at a label that does not exist.
+    /// No pair starts at a label that does not exist.
     ghost sources: { (p : Self) (a b : ℕ) → size p ≤ a → flows p a b ≡ false };
 
-    // No pair ends at a label that does not exist.
+    /// No pair ends at a label that does not exist.
     ghost targets: { (p : Self) (a b : ℕ) → size p ≤ b → flows p a b ≡ false };
 }

@@ -7,7 +7,8 @@ use super::pair_set::PairSet;
 
 pub mod calls;
 
-/// A policy less the pairs that were revoked, at most 32; `taken` counts them.
+/// A policy less the pairs that were revoked, at most 32; `taken` counts them. The limit is this policy's and
+/// not the set's, so the count stands here.
 #[derive(Drop)]
 pub struct Narrowed<P> {
     inner: P,

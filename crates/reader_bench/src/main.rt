@@ -10,6 +10,7 @@ use std::{env, fs, io};
 
 const PLACES: usize = 4000;
 
+// Not `Row::BLANK`: this letter is in the sum that is printed.
 const BLANK: Row = Row {
     letter: '?',
     a: 0,

@@ -4,7 +4,8 @@ ghost use Rattle.shaping.specs.Letters.{rank, in_order, from_one, within_limits}
 
 use sheet::{Row, Table};
 
-// The place of a letter's rows, and 4 for a letter that there is no row of.
+// The place of a letter's rows, and 4 for a letter that there is no row of: places are compared, and one past
+// the others compares as it should.
 fn rank(letter: char) -> usize
     ensures { result ≡ rank letter }
 {

@@ -47,7 +47,7 @@ pub enum Operator {
 }
 
 /// A type. The row's third number is a function's argument type and a reference's site set: it is
-/// read under both names.
+/// read under both names. A case for each form would not do, since a row may hold any numbers in any form.
 #[derive(Clone, Copy, Debug, PartialEq, Eq)]
 pub struct TypeRow {
     pub form: Form,
@@ -69,7 +69,7 @@ pub struct SiteRow {
 }
 
 /// A node. The row's last number is read as an argument, which counts from 0, and as a literal,
-/// which may be below zero.
+/// which may be below zero, whatever the kind.
 #[derive(Clone, Copy, Debug, PartialEq, Eq)]
 pub struct NodeRow {
     pub kind: Kind,

@@ -41,7 +41,7 @@ fn magnitude_of(digits: &[u8]) -> Option<u64>
     if digits.is_empty() || digits.len() > 10 {
         return None;
     }
-    // no fold: its closure would not know that ten digits fit
+    // no `fold` or `try_fold`: the closure would not know that ten digits fit
     let mut n: u64 = 0;
     for digit in digits {
         if !digit.is_ascii_digit() {

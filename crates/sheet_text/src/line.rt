@@ -4,7 +4,9 @@ ghost use Rattle.sheet_text.specs.Rows.{blank as no_fields, taken, row_in};
 use super::field::{letter_of, number_of};
 use sheet::Row;
 
-// What the fields of a row say, as they are read one by one.
+// What the fields of a row say, as they are read one by one. A row may be at fault in several ways, each of
+// which is asked of all rows before the next, so what is known of each stands beside the others. There is no
+// heap here, so the values are an array.
 #[derive(Clone, Copy)]
 pub(crate) struct Line {
     // how many fields there are; seven stands for more than six

@@ -71,9 +71,9 @@ fn fill(input: &[u8], table: &mut [Row])
     }
 }
 
-// Reads a sheet's text into a table: how many rows it has, or the first question that is answered
-// no and its row. A refused reading leaves the table as it was, and a granted one leaves the places
-// past the rows as they were.
+/// Reads a sheet's text into a table: how many rows it has, or the first question that is answered
+/// no and its row. A refused reading leaves the table as it was, and a granted one leaves the places
+/// past the rows as they were.
 pub fn read_sheet(input: &[u8], table: &mut [Row]) -> Result<usize, Refusal>
     ensures answer { result ≡ reading (length table.old) input.now }
     ensures after { table.new ≡ table_after table.old input.now }

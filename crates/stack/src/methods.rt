@@ -31,7 +31,8 @@ impl<'a, T: Copy> BoundedStack<'a, T> {
         self.items.len() <= self.count
     }
 
-    /// Puts `x` on top, and says whether there was room for it.
+    /// Puts `x` on top, and says whether there was room for it. It answers as a set's `insert` does: nothing is
+    /// known of a refusal but that the stack was full.
     pub fn push(&mut self, x: T) -> bool
         ensures area { SameArea self.old self.new }
         ensures answer { result ≡ nat_lt (length (live self.old)) (room self.old) }
