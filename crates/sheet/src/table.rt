@@ -6,7 +6,8 @@ use super::row::Row;
 /// The rows of a sheet, with how many there are of each letter: any rows make one. The ghost fields say
 /// that each count is the one that the sheet read off the rows has, and that the sections fit in. The
 /// sections are told by their counts: as slices of their own they would need these facts, and where
-/// each of them begins.
+/// each of them begins. Contracts speak of the sheet, `view` of the rows: a model of the table by its sheet
+/// would hide the rows, which shaping is about.
 #[derive(Clone, Copy)]
 pub struct Table<'a> {
     pub rows: &'a [Row],

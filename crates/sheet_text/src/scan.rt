@@ -19,6 +19,7 @@ fn bare_len(rest: &[u8]) -> usize
     ensures ends { ends_bare (drop result rest.now) ≡ true }
     ensures read { bare (symbols rest.now) [] ≡ bare (symbols (drop result rest.now)) (take result rest.now) }
 {
+    // no `position`: it looks at single bytes, and a line's end is two
     for n in 0..rest.len() {
         if ends_bare_field(&rest[n..]) {
             return n;
