@@ -35,6 +35,7 @@ module _ {K V : Type 0} (n : K → V) where
   told z (Ok (Reference a)) t = record { ending = ending.NoNumber; number = z; steps = t }
   told z (Err e) t = record { ending = ending.Stopped e; number = z; steps = t }
 
+  -- the report of what a run came to
   abbrev pub concluded : V → Outcome K → Told V
   concluded z o = told z o.answer o.steps
 
@@ -56,13 +57,14 @@ module _ {K : Type 0} where
   taken (c ∷ cs) [] = []
   taken (c ∷ cs) (x ∷ xs) = number_in c.value x ∷ taken cs xs
 
-  -- what the sites hold after a run
+  -- what the sites hold after a run, from its answer and the cells
   abbrev pub kept_by : Result (Value K) Stop → List (Cell K) → List K → List K
   kept_by (Ok (Number x)) cs xs = taken cs xs
   kept_by (Ok (Closure f k)) cs xs = xs
   kept_by (Ok (Reference a)) cs xs = xs
   kept_by (Err e) cs xs = xs
 
+  -- the same, from all that the machine came to
   abbrev pub kept : Outcome K → List (Cell K) → List K → List K
   kept o cs xs = kept_by o.answer cs xs
 

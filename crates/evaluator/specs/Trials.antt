@@ -1,5 +1,5 @@
 -- A trial: a run of an entry of a shaped sheet, with every channel at 0, of which nothing is kept.
-use Rattle.std.specs.Prelude.{◌≡◌, ℕ, Bool, cond, ◌&&◌, pos, Ok, Err, Result, nat_le, nat_lt}
+use Rattle.std.specs.Prelude.{ℕ, Bool, cond, ◌&&◌, pos, Ok, Err, Result, nat_le, nat_lt}
 use Rattle.number.specs.NumberKind.{NumberKind}
 use Rattle.sheet.specs.Sheet.{Sheet}
 use Rattle.evaluation.specs.Runs.{Report as Told, run_report}
@@ -41,8 +41,3 @@ trial_answer M S e fuel pending bound held = granted (trial_verdict S e fuel pen
 abbrev pub answered : {K V : Type 0} → (K → V) → Result (Report K) Refusal → Result (Told V) Refusal
 answered n (Ok r) = Ok (reported n r)
 answered n (Err q) = Err q
-
--- a refusal leaves the area as it was
-abbrev pub LeftAlone : {A B : Type 0} → Result A Refusal → B → B → Type 0
-LeftAlone (Ok r) before after = Unit {0}
-LeftAlone (Err q) before after = after ≡ before

@@ -3,7 +3,7 @@ ghost use Rattle.evaluator.specs.Trials.{«number_of»};
 
 use thiserror::Error;
 
-// What a trial is refused for, in this order.
+/// What a trial is refused for, in this order.
 #[derive(Clone, Copy, PartialEq, Eq, Debug, Error)]
 pub enum Refusal {
     #[error("the sheet has no such entry")]
@@ -15,7 +15,7 @@ pub enum Refusal {
 }
 
 impl Refusal {
-    // The number that a refusal gives.
+    /// The number that a refusal gives.
     pub fn number(self) -> u8
         ensures { result ≡ number_of self }
     {

@@ -1,5 +1,5 @@
-// A run of an entry: copies of the channels' numbers go into the cells of the sites, the machine runs
-// over them, and the numbers go back only where the run ended in a number.
+//! A run of an entry: copies of the channels' numbers go into the cells of the sites, the machine runs
+//! over them, and the numbers go back only where the run ended in a number.
 ghost use Rattle.std.specs.Prelude.{◌≡◌, ◌≤◌, [], map, length, pos};
 ghost use Rattle.stack.specs.Live.{live, room, SameArea};
 ghost use Rattle.sheet.specs.Sheet.{view};
@@ -9,7 +9,7 @@ ghost use Rattle.evaluator.specs.Runs.{reported, concluded, opened, padded, HasR
 
 use super::report::Report;
 use evaluation::Ending;
-use machine::{Cell, Outcome, Value, WorkAreas, run};
+use machine::{Cell, MOST_BINDINGS, MOST_FRESH, MOST_PENDING, Outcome, Value, WorkAreas, run};
 use number::Number;
 use shaping::Shaped;
 use stack::BoundedStack;
@@ -60,7 +60,7 @@ fn keep<K: Number>(outcome: Outcome<K>, cells: &BoundedStack<Cell<K>>, numbers: 
     }
 }
 
-// What is told of a run.
+/// What is told of a run.
 pub fn conclude<K: Number>(outcome: Outcome<K>) -> Report<K>
     ensures { reported K.Number.value result ≡ concluded K.Number.value (K.Number.kind.whole (pos 0)) outcome }
 {
@@ -92,18 +92,18 @@ pub(crate) fn run_entry<K: Number>(
 {
     let table = &sheet.table;
     let root = table.entry_at(entry).root;
-    let mut frames = BoundedStack::new(&mut areas.pending[0..1024]);
-    let mut bindings = BoundedStack::new(&mut areas.bound[0..1024]);
-    let mut cells = BoundedStack::new(&mut areas.held[0..table.sites + 512]);
+    let mut frames = BoundedStack::new(&mut areas.pending[0..MOST_PENDING]);
+    let mut bindings = BoundedStack::new(&mut areas.bound[0..MOST_BINDINGS]);
+    let mut cells = BoundedStack::new(&mut areas.held[0..table.sites + MOST_FRESH]);
     load(&mut cells, table.sites, numbers, K::from_whole(0));
     let outcome = run(table, &mut frames, &mut bindings, &mut cells, root, fuel);
     keep(outcome, &cells, numbers);
     conclude(outcome)
 }
 
-// Runs an entry of a shaped sheet whose sites hold the numbers given: what the run tells, and what the
-// sites hold after it, is what the definition says. Both depend on the sheet, the entry, the fuel and
-// the numbers alone, so on nothing that the work areas held before.
+/// Runs an entry of a shaped sheet whose sites hold the numbers given: what the run tells, and what the
+/// sites hold after it, is what the definition says. Both depend on the sheet, the entry, the fuel and
+/// the numbers alone, so on nothing that the work areas held before.
 pub fn evaluate<K: Number>(
     sheet: &Shaped,
     numbers: &mut [K],

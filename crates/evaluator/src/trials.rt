@@ -1,8 +1,8 @@
-// A trial of an entry: a run with every channel at 0, of which nothing is kept.
+//! A trial of an entry: a run with every channel at 0, of which nothing is kept.
 ghost use Rattle.std.specs.Prelude.{◌≡◌, length};
 ghost use Rattle.sheet.specs.Sheet.{view};
-ghost use Rattle.machine.specs.Areas.{SameLoans};
-ghost use Rattle.evaluator.specs.Trials.{lawful_fuel, trial_verdict, trial_answer, answered, LeftAlone};
+ghost use Rattle.machine.specs.Areas.{SameLoans, LeftAlone};
+ghost use Rattle.evaluator.specs.Trials.{lawful_fuel, trial_verdict, trial_answer, answered};
 
 use super::refusal::Refusal;
 use super::report::Report;
@@ -12,7 +12,7 @@ use number::Number;
 use shaping::Shaped;
 use sheet::Table;
 
-// Whether a run may have this fuel.
+/// Whether a run may have this fuel.
 pub fn is_lawful_fuel(fuel: usize) -> bool
     ensures { result ≡ lawful_fuel fuel }
 {
@@ -35,8 +35,8 @@ fn check<K>(table: &Table, entry: usize, fuel: usize, areas: &WorkAreas<K>) -> R
     Ok(())
 }
 
-// Tries an entry of a shaped sheet. The answer depends on nothing that the work areas held before; a
-// refused trial leaves them as they were.
+/// Tries an entry of a shaped sheet. The answer depends on nothing that the work areas held before; a
+/// refused trial leaves them as they were.
 pub fn trial<K: Number>(
     sheet: &Shaped,
     entry: usize,

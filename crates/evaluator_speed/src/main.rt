@@ -3,7 +3,9 @@
 #![tactic(auto)]
 
 use evaluator::trial;
-use machine::{Binding, Cell, Frame, Stage, Value, WorkAreas};
+use machine::{
+    Binding, Cell, Frame, MOST_BINDINGS, MOST_CELLS, MOST_PENDING, Stage, Value, WorkAreas,
+};
 use number::Millimetres;
 use shaping::{Draft, Shaped};
 use std::io;
@@ -19,13 +21,13 @@ fn timed_trial(rt: &HostRuntime, sheet: &Shaped) -> io::Result<(usize, u128)> {
         node: 0,
         scope: 0,
         stage,
-    }; 1024];
+    }; MOST_PENDING];
     let mut bound = [Binding {
         function: 0,
         value,
         outer: 0,
-    }; 1024];
-    let mut held = [Cell { site: 0, value }; 544];
+    }; MOST_BINDINGS];
+    let mut held = [Cell { site: 0, value }; MOST_CELLS];
     let mut areas = WorkAreas {
         pending: &mut pending,
         bound: &mut bound,

@@ -14,7 +14,7 @@ use Rattle.evaluation.specs.declared.ending.Stop.TheVariants.{FuelSpent, Pending
 use Rattle.sheet.specs.Sheet.{Sheet}
 use Rattle.machine.specs.Flat.{Limits, FlatOutcome, flat_done, flat_stopped, flat_eval}
 use Rattle.machine.specs.Seen.{Machine, Start, Return, value, stage, frame, next, frames, bindings, cells, machine, flat, ended}
-use Rattle.machine.specs.Steps.{at, admitted, starts, resumes}
+use Rattle.machine.specs.Steps.{at, may_start, starts, resumes}
 use Rattle.machine.proofs.Finish.{finish, started, returned, out_of_fuel, out_of_places, stopping, returning, beginning}
 use Rattle.machine.proofs.Weigh.{weigh, lighter_started, lighter_returned}
 
@@ -34,14 +34,14 @@ passed_on (Err y) e h = ap Err h
 pub limits : (b b' c c' : ℕ) → b ≡ b' → c ≡ c' → ◌≡◌ {A = Limits} (record { bindings = b; cells = c }) (record { bindings = b'; cells = c' })
 limits b b' c c' e h = ap (λ (x : ℕ). record { bindings = x; cells = c }) e ∙ ap (λ (x : ℕ). record { bindings = b'; cells = x }) h
 
--- a start that is admitted, where l of p places are taken
-pub admits : (t fuel d l p : ℕ) (full : Bool) (u : Unit {0}) → full ≡ leb p l → p ≡ d → Ok u ≡ admitted (eqb t fuel) full → t ≤ fuel → (t < fuel) × (l < d)
-admits t fuel d l p full x h q r b =
+-- a node may start, where l of p places are taken
+pub room_to_start : (t fuel d l p : ℕ) (full : Bool) (u : Unit {0}) → full ≡ leb p l → p ≡ d → Ok u ≡ may_start (eqb t fuel) full → t ≤ fuel → (t < fuel) × (l < d)
+room_to_start t fuel d l p full x h q r b =
     ⊎_elim
-    (λ (u : eqb t fuel ≡ true). ok_err x FuelSpent (r ∙ ap (λ (b : Bool). admitted b full) u))
+    (λ (u : eqb t fuel ≡ true). ok_err x FuelSpent (r ∙ ap (λ (b : Bool). may_start b full) u))
     (λ (u : eqb t fuel ≡ false).
     ⊎_elim
-    (λ (w : full ≡ true). ok_err x PendingFull (r ∙ ap (λ (b : Bool). admitted b full) u ∙ ap (admitted false) w))
+    (λ (w : full ≡ true). ok_err x PendingFull (r ∙ ap (λ (b : Bool). may_start b full) u ∙ ap (may_start false) w))
     (λ (w : full ≡ false). let g = leb-false p l (sym h ∙ w) in let n = eqb-false t fuel u in (grind arith, omega arith))
     (cases_Bool full))
     (cases_Bool (eqb t fuel))
@@ -70,19 +70,19 @@ module _ {K : Type 0} (M : NumberKind) (S : Sheet) (L : Limits) (n : K → M.Val
         ∙ ap (λ (y : Result (Next K) Stop). finish M S L fuel d (machine n y fs bs cs) t) (sym e) ∙ inv
 
     pub ends_refused : (a : Result (Value K) Stop) (stop : Stop) (p : ℕ) (full : Bool) (i k : ℕ) → IsErrAnd a (λ y. y ≡ stop)
-        → x ≡ Ok (Starts i k) → full ≡ leb p (length fs) → p ≡ d → Err stop ≡ admitted (eqb t fuel) full → ended n a t bs cs ≡ o
+        → x ≡ Ok (Starts i k) → full ≡ leb p (length fs) → p ≡ d → Err stop ≡ may_start (eqb t fuel) full → ended n a t bs cs ≡ o
     ends_refused a stop p full i k y e h pd r =
         ap (λ (z : Result (Value K) Stop). ended n z t bs cs) (passed_on a stop y) ∙
         ⊎_elim
         (λ (u : eqb t fuel ≡ true).
-        let q : stop ≡ FuelSpent = err_is stop FuelSpent (r ∙ ap (λ (b : Bool). admitted b full) u) in
+        let q : stop ≡ FuelSpent = err_is stop FuelSpent (r ∙ ap (λ (b : Bool). may_start b full) u) in
         ap (λ (z : Stop). flat_stopped z t) q ∙ ends_fuel i k e (eqb-true t fuel u))
         (λ (u : eqb t fuel ≡ false).
         ⊎_elim
         (λ (w : full ≡ true).
-        let q : stop ≡ PendingFull = err_is stop PendingFull (r ∙ ap (λ (b : Bool). admitted b full) u ∙ ap (admitted false) w) in
+        let q : stop ≡ PendingFull = err_is stop PendingFull (r ∙ ap (λ (b : Bool). may_start b full) u ∙ ap (may_start false) w) in
         ap (λ (z : Stop). flat_stopped z t) q ∙ ends_full i k e (eqb-false t fuel u) (leb-true d (length fs) (sym (h ∙ ap (λ (z : ℕ). leb z (length fs)) pd) ∙ w)))
-        (λ (w : full ≡ false). ok_err tt stop (sym (r ∙ ap (λ (b : Bool). admitted b full) u ∙ ap (admitted false) w)))
+        (λ (w : full ≡ false). ok_err tt stop (sym (r ∙ ap (λ (b : Bool). may_start b full) u ∙ ap (may_start false) w)))
         (cases_Bool full))
         (cases_Bool (eqb t fuel))
 

@@ -1,5 +1,5 @@
 -- The areas that a run works in: how many places are enough, and what stays of the areas.
-use Rattle.std.specs.Prelude.{◌≡◌, ℕ, ◌&&◌, Bool, length, nat_le}
+use Rattle.std.specs.Prelude.{◌≡◌, ℕ, ◌&&◌, Bool, length, nat_le, Result, Ok, Err}
 use Rattle.evaluation.specs.Evaluation.{most_pending, most_bindings}
 use Rattle.machine.specs.declared.areas.WorkAreas.{WorkAreas}
 
@@ -19,3 +19,8 @@ pub record SameLoans {K : Type 0} (before after : WorkAreas K) : Type 0 where
   pub pending_length : length after.pending.now ≡ length before.pending.now
   pub bound_length : length after.bound.now ≡ length before.bound.now
   pub held_length : length after.held.now ≡ length before.held.now
+
+-- a refusal leaves the areas as they were
+abbrev pub LeftAlone : {A E B : Type 0} → Result A E → B → B → Type 0
+LeftAlone (Ok r) before after = Unit {0}
+LeftAlone (Err q) before after = after ≡ before

@@ -57,13 +57,15 @@ module _ {V : Type 0} where
   flat_provided true first other = first tt
   flat_provided false first other = other
 
-  -- the state with other cells, with one step more, with one binding more
+  -- the state with other cells
   abbrev pub with_cells : FlatState V → List (Cell V) → FlatState V
   with_cells s cs = record { cells = cs; made = s.made; steps = s.steps }
 
+  -- the state with one step more
   abbrev pub one_step : FlatState V → FlatState V
   one_step s = record { cells = s.cells; made = s.made; steps = suc s.steps }
 
+  -- the state with one binding more
   abbrev pub one_more : FlatState V → Binding V → FlatState V
   one_more s b = record { cells = s.cells; made = s.made ++ b ∷ []; steps = s.steps }
 

@@ -20,10 +20,10 @@ use Rattle.machine.specs.Flat.{Limits, seek}
 use Rattle.machine.specs.Seen.{Machine, Turn, Start, Return, Halt}
 
 -- whether a node can be started, where all fuel is spent and where no place is left
-abbrev pub admitted : (spent full : Bool) → Result (Unit {0}) Stop
-admitted true full = Err FuelSpent
-admitted false true = Err PendingFull
-admitted false false = Ok tt
+abbrev pub may_start : (spent full : Bool) → Result (Unit {0}) Stop
+may_start true full = Err FuelSpent
+may_start false true = Err PendingFull
+may_start false false = Ok tt
 
 module _ {V : Type 0} where
   -- the machine with these parts
@@ -38,10 +38,11 @@ module _ {V : Type 0} where
   abbrev pub pends : ℕ → ℕ → Stage V → ℕ → List (Frame V) → List (Binding V) → List (Cell V) → Machine V
   pends i k g p fs bs cs = at (Start p k) (fs ++ (framed i k g ∷ [])) bs cs
 
-  -- a value comes back, or the run stops
+  -- a value comes back
   abbrev pub gives : Value V → List (Frame V) → List (Binding V) → List (Cell V) → Machine V
   gives v fs bs cs = at (Return v) fs bs cs
 
+  -- the run stops
   abbrev pub halts : Stop → List (Frame V) → List (Binding V) → List (Cell V) → Machine V
   halts e fs bs cs = at (Halt e) fs bs cs
 
@@ -50,21 +51,23 @@ module _ {V : Type 0} where
   looks i None fs bs cs = halts (Stuck i) fs bs cs
   looks i (Some v) fs bs cs = gives v fs bs cs
 
-  -- what a cell holds, and reading through a reference
+  -- what a cell holds
   abbrev pub reads_at : ℕ → Option (Cell V) → List (Frame V) → List (Binding V) → List (Cell V) → Machine V
   reads_at i None fs bs cs = halts (Stuck i) fs bs cs
   reads_at i (Some c) fs bs cs = gives c.value fs bs cs
 
+  -- reading through a reference
   abbrev pub reads : ℕ → Value V → List (Frame V) → List (Binding V) → List (Cell V) → Machine V
   reads i (Number n) fs bs cs = halts (Stuck i) fs bs cs
   reads i (Closure f k) fs bs cs = halts (Stuck i) fs bs cs
   reads i (Reference a) fs bs cs = reads_at i (slice_get cs a) fs bs cs
 
-  -- a cell with another value, and writing through a reference
+  -- a cell with another value
   abbrev pub writes_at : ℕ → ℕ → Value V → Option (Cell V) → List (Frame V) → List (Binding V) → List (Cell V) → Machine V
   writes_at i a v None fs bs cs = halts (Stuck i) fs bs cs
   writes_at i a v (Some c) fs bs cs = gives v fs bs (slice_set cs a (record { site = c.site; value = v }))
 
+  -- writing through a reference
   abbrev pub writes : ℕ → Value V → Value V → List (Frame V) → List (Binding V) → List (Cell V) → Machine V
   writes i (Number n) v fs bs cs = halts (Stuck i) fs bs cs
   writes i (Closure f k) v fs bs cs = halts (Stuck i) fs bs cs

@@ -3,8 +3,20 @@ ghost use Rattle.machine.specs.Areas.{enough};
 
 use super::values::{Binding, Cell, Frame};
 
-// The places that a run works in, for pending nodes, bindings and cells. They are lent, and what they
-// hold before a run sways nothing.
+/// The most nodes that a run may have pending.
+pub const MOST_PENDING: usize = 1024;
+
+/// The most bindings that a run may make.
+pub const MOST_BINDINGS: usize = 1024;
+
+/// The most cells that a run may make beside those of the sites.
+pub const MOST_FRESH: usize = 512;
+
+/// The most cells that a run of any sheet may have: for 32 sites, and the fresh ones.
+pub const MOST_CELLS: usize = 544;
+
+/// The places that a run works in, for pending nodes, bindings and cells. They are lent, and what they
+/// hold before a run sways nothing.
 #[derive(Drop)]
 pub struct WorkAreas<'a, K> {
     pub pending: &'a mut [Frame<K>],
@@ -13,10 +25,12 @@ pub struct WorkAreas<'a, K> {
 }
 
 impl<'a, K> WorkAreas<'a, K> {
-    // Whether each area has the places that a run of any sheet may need.
+    /// Whether each area has the places that a run of any sheet may need.
     pub fn are_enough(&self) -> bool
         ensures { result ≡ enough (length self.now.pending.now) (length self.now.bound.now) (length self.now.held.now) }
     {
-        self.pending.len() >= 1024 && self.bound.len() >= 1024 && self.held.len() >= 544
+        self.pending.len() >= MOST_PENDING
+            && self.bound.len() >= MOST_BINDINGS
+            && self.held.len() >= MOST_CELLS
     }
 }

@@ -6,6 +6,6 @@ pub mod runs;
 pub mod steps;
 pub mod values;
 
-pub use areas::WorkAreas;
+pub use areas::{MOST_BINDINGS, MOST_CELLS, MOST_FRESH, MOST_PENDING, WorkAreas};
 pub use runs::run;
 pub use values::{Binding, Cell, Frame, Next, Outcome, Stage, Value};

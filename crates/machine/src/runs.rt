@@ -1,9 +1,9 @@
-// The loop.
+//! The loop.
 ghost use Rattle.std.specs.Prelude.{◌≡◌, []};
 ghost use Rattle.stack.specs.Live.{live, room};
 ghost use Rattle.sheet.specs.Sheet.{view};
 ghost use Rattle.machine.specs.Does.{Evaluated};
-ghost use Rattle.machine.specs.Steps.{admitted};
+ghost use Rattle.machine.specs.Steps.{may_start};
 
 use super::steps::{resume, start};
 use super::values::{Binding, Cell, Frame, Next, Outcome, Value};
@@ -13,8 +13,8 @@ use sheet::Table;
 use stack::BoundedStack;
 
 // Whether a node can be started: fuel is tested first, then the places for pending nodes.
-fn admit(spent: bool, full: bool) -> Result<(), Stop>
-    ensures { result ≡ admitted spent full }
+fn may_start(spent: bool, full: bool) -> Result<(), Stop>
+    ensures { result ≡ may_start spent full }
 {
     if spent {
         return Err(Stop::FuelSpent);
@@ -46,7 +46,7 @@ fn value_of<K: Number>(
     loop {
         next = match next {
             Next::Start { node, scope } => {
-                admit(*steps == fuel, frames.is_full())?;
+                may_start(*steps == fuel, frames.is_full())?;
                 *steps += 1;
                 start(table, frames, bindings, node, scope)?
             }
@@ -58,8 +58,8 @@ fn value_of<K: Number>(
     }
 }
 
-// Evaluates node `root` with at most `fuel` steps. As many nodes can be pending, and as many bindings
-// and cells made, as the stacks have places.
+/// Evaluates node `root` with at most `fuel` steps. As many nodes can be pending, and as many bindings
+/// and cells made, as the stacks have places.
 pub fn run<K: Number>(
     table: &Table,
     frames: &mut BoundedStack<Frame<K>>,

@@ -1,11 +1,11 @@
-// What the machine holds. The machine owns no heap, so an environment is a place in the stack of bindings:
-// place 0 is the empty one, and place k + 1 is the one whose innermost binding is binding k.
+//! What the machine holds. The machine owns no heap, so an environment is a place in the stack of bindings:
+//! place 0 is the empty one, and place k + 1 is the one whose innermost binding is binding k.
 ghost use Rattle.std.specs.Prelude.{◌≡◌};
 ghost use Rattle.machine.specs.Wanted.{number_for, address_for};
 
 use evaluation::Stop;
 
-// A number, a function node with the environment that it was made in, or the address of a cell.
+/// A number, a function node with the environment that it was made in, or the address of a cell.
 #[derive(Clone, Copy)]
 pub enum Value<K> {
     Number(K),
@@ -35,7 +35,7 @@ impl<K: Copy> Value<K> {
     }
 }
 
-// The value of a function's argument, and the environment around it.
+/// The value of a function's argument, and the environment around it.
 #[derive(Clone, Copy)]
 pub struct Binding<K> {
     pub function: usize,
@@ -43,15 +43,15 @@ pub struct Binding<K> {
     pub outer: usize,
 }
 
-// The site that the cell was made at, and what it holds.
+/// The site that the cell was made at, and what it holds.
 #[derive(Clone, Copy)]
 pub struct Cell<K> {
     pub site: usize,
     pub value: Value<K>,
 }
 
-// What a pending node does with the value that it waits for. A closure in its place would own what it
-// captured, and the stack of pending nodes is fixed memory: so what is captured is a field here.
+/// What a pending node does with the value that it waits for. A closure in its place would own what it
+/// captured, and the stack of pending nodes is fixed memory: so what is captured is a field here.
 #[derive(Clone, Copy)]
 pub enum Stage<K> {
     Chooses,
@@ -66,7 +66,7 @@ pub enum Stage<K> {
     Passes,
 }
 
-// A pending node, and the environment that it was started in.
+/// A pending node, and the environment that it was started in.
 #[derive(Clone, Copy)]
 pub struct Frame<K> {
     pub node: usize,
@@ -74,14 +74,14 @@ pub struct Frame<K> {
     pub stage: Stage<K>,
 }
 
-// What the machine does next, unless it stops.
+/// What the machine does next, unless it stops.
 #[derive(Clone, Copy)]
 pub enum Next<K> {
     Start { node: usize, scope: usize },
     Return(Value<K>),
 }
 
-// What a run comes to, with the steps that it made.
+/// What a run comes to, with the steps that it made.
 #[derive(Clone, Copy)]
 pub struct Outcome<K> {
     pub answer: Result<Value<K>, Stop>,

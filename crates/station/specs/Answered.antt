@@ -1,5 +1,5 @@
 -- What the code asks and answers, with each number by its value.
-use Rattle.std.specs.Prelude.{◌≡◌, ℕ, Bool, true, false, [], ◌∷◌, Some, None, Option, Ok, Err, Result, length}
+use Rattle.std.specs.Prelude.{ℕ, Bool, true, false, [], ◌∷◌, Some, None, Option, Ok, Err, Result, length}
 use Rattle.sheet.specs.Sheet.{Sheet}
 use Rattle.machine.specs.declared.areas.WorkAreas.{WorkAreas}
 use Rattle.evaluator.specs.declared.report.Report.{Report}
@@ -26,17 +26,20 @@ opening_refusal S len = first_refused ((ChannelArea, roomy S len) ∷ [])
 abbrev pub opening_verdict : Sheet → ℕ → Result (Unit {0}) Question
 opening_verdict S len = verdict (opening_refusal S len)
 
--- what the code answers to a post, to a read, and to a run
+-- what the code answers
 module _ {V : Type 0} where
+  -- the answer to a post
   abbrev pub posted : Result (Unit {0}) Question → Answer V
   posted (Ok u) = granted
   posted (Err q) = refused q
 
   module _ {K : Type 0} (n : K → V) where
+    -- the answer to a read
     abbrev pub read_out : Result K Question → Answer V
     read_out (Ok x) = told (n x)
     read_out (Err q) = refused q
 
+    -- the answer to a run
     abbrev pub ran : Result (Report K) Question → Answer V
     ran (Ok r) = ended (reported n r)
     ran (Err q) = refused q
@@ -45,8 +48,3 @@ module _ {V : Type 0} where
 abbrev pub run_over : {K V : Type 0} → (seat entry fuel : ℕ) → WorkAreas K → Call V
 run_over seat entry fuel areas =
     run_entry seat entry fuel (length areas.pending.now) (length areas.bound.now) (length areas.held.now)
-
--- a refusal leaves the area as it was
-abbrev pub LeftAlone : {A B : Type 0} → Result A Question → B → B → Type 0
-LeftAlone (Ok r) before after = Unit {0}
-LeftAlone (Err q) before after = after ≡ before

@@ -1,11 +1,11 @@
-// Opening a station, and the calls of the seats. Each answers, and leaves in the channel area, what the
-// definition says; a refused call leaves everything as it was.
+//! Opening a station, and the calls of the seats. Each answers, and leaves in the channel area, what the
+//! definition says; a refused call leaves everything as it was.
 ghost use Rattle.std.specs.Prelude.{◌≡◌, true, length, map};
 ghost use Rattle.sheet.specs.Sheet.{view};
-ghost use Rattle.machine.specs.Areas.{SameLoans};
+ghost use Rattle.machine.specs.Areas.{SameLoans, LeftAlone};
 ghost use Rattle.station.specs.Calls.{answer, after, opened, first_refused, channel_questions, run_questions};
 ghost use Rattle.station.specs.Calls.{post as posting, read as reading};
-ghost use Rattle.station.specs.Answered.{verdict, passed, opening_verdict, posted, «read_out», ran, run_over, LeftAlone};
+ghost use Rattle.station.specs.Answered.{verdict, passed, opening_verdict, posted, «read_out», ran, run_over};
 ghost use Rattle.station.specs.Stations.{sheet_of, area_of};
 ghost use Rattle.station.specs.Histories.{ContractLine};
 ghost use Rattle.station.specs.Promise.{Promise};
@@ -19,7 +19,7 @@ use number::Number;
 use sheet::Flag;
 
 impl<'s, 'c, K: Number> Station<'s, 'c, K> {
-    // Asks what an opening is asked: question 41.
+    /// Asks what an opening is asked: question 41.
     pub fn check(sheet: &Admitted, channels: &[K]) -> Result<(), Question>
         ensures { result ≡ opening_verdict (view sheet.now.shaped.table.rows.now) (length channels.now) }
     {
@@ -29,10 +29,10 @@ impl<'s, 'c, K: Number> Station<'s, 'c, K> {
         Ok(())
     }
 
-    // The station over an admitted sheet and a channel area, with every channel at 0. The check must
-    // have said yes. From here on no party's entry sways another's figure unless the policy pairs the
-    // two, and no run is stuck: that is what the contract line says of all histories of calls, of all
-    // admitted sheets and so of this one.
+    /// The station over an admitted sheet and a channel area, with every channel at 0. The check must
+    /// have said yes. From here on no party's entry sways another's figure unless the policy pairs the
+    /// two, and no run is stuck: that is what the contract line says of all histories of calls, of all
+    /// admitted sheets and so of this one.
     pub fn open(sheet: Admitted<'s>, channels: &'c mut [K]) -> Station<'s, 'c, K>
         requires { passed (opening_verdict (view sheet.shaped.table.rows.now) (length channels.old)) ≡ true }
         ensures sheet { result.sheet.shaped.table ≡ sheet.entry.shaped.table }
@@ -61,7 +61,7 @@ impl<'s, 'c, K: Number> Station<'s, 'c, K> {
         Ok(())
     }
 
-    // Sets a channel of the seat's to a number.
+    /// Sets a channel of the seat's to a number.
     pub fn post(&mut self, seat: usize, channel: usize, number: K) -> Result<(), Question>
         ensures lender { self.new.channels.ghost_name ≡ self.old.channels.ghost_name }
         ensures sheet { self.new.sheet.shaped.table ≡ self.old.sheet.shaped.table }
@@ -73,7 +73,7 @@ impl<'s, 'c, K: Number> Station<'s, 'c, K> {
         Ok(())
     }
 
-    // Tells what a channel of the seat's holds.
+    /// Tells what a channel of the seat's holds.
     pub fn read(&self, seat: usize, channel: usize) -> Result<K, Question>
         ensures answer { read_out K.Number.value result ≡ answer (sheet_of self.now) K.Number.kind (reading seat channel) (area_of K.Number.value self.now) }
         ensures area { after (sheet_of self.now) K.Number.kind (reading seat channel) (area_of K.Number.value self.now) ≡ area_of K.Number.value self.now }
@@ -109,9 +109,9 @@ impl<'s, 'c, K: Number> Station<'s, 'c, K> {
         Ok(())
     }
 
-    // Runs an entry of the seat's over copies of the channels, which are written back only where the
-    // run is done with a number. No answer depends on what the work areas held before, so none depends
-    // on what they hold after.
+    /// Runs an entry of the seat's over copies of the channels, which are written back only where the
+    /// run is done with a number. No answer depends on what the work areas held before, so none depends
+    /// on what they hold after.
     pub fn run(
         &mut self,
         seat: usize,

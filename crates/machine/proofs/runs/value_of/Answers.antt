@@ -3,7 +3,7 @@ use Rattle.stack.specs.Live.{live, room}
 use Rattle.stack.proofs.Ends.{empty_from_top}
 use Rattle.machine.specs.Seen.{cells}
 use Rattle.machine.proofs.Lists.{fewer, whole, within}
-use Rattle.machine.proofs.Turns.{limits, admits, begins, ends_refused, ends_stop, ends_done, goes_start, falls_start, goes_return, falls_return}
+use Rattle.machine.proofs.Turns.{limits, room_to_start, begins, ends_refused, ends_stop, ends_done, goes_start, falls_start, goes_return, falls_return}
 use Rattle.machine.proofs.runs.value_of.Goals as goal
 
 pub loop-next-init : goal.loop-next-init
@@ -17,33 +17,33 @@ loop-next-init g c =
     }
 
 -- a node is started
-pub returns-in_err-admit-in-Start : goal.returns-in_err-admit-in-Start
-returns-in_err-admit-in-Start g c =
+pub returns-in_err-may_start-in-Start : goal.returns-in_err-may_start-in-Start
+returns-in_err-may_start-in-Start g c =
     ends_refused _ _ _ _ _ _ _ _ _ _ _ _ c.loop-next.invariant.rest _ _ (room c.loop-next.frames) c.is_full.result _ _ c.from_residual.ensures.1 (ap Ok c.in-Start.is)
-    c.is_full.ensures c.loop-next.invariant.frames_places c.in_err-admit-in-Start.ensures
+    c.is_full.ensures c.loop-next.invariant.frames_places c.in_err-may_start-in-Start.ensures
 
 pub overflow_add-steps : goal.overflow_add-steps
 overflow_add-steps g c =
-    let free = admits _ _ _ _ _ _ _ c.is_full.ensures c.loop-next.invariant.frames_places c.in_ok-admit-in-Start.ensures c.loop-next.invariant.counted in
+    let free = room_to_start _ _ _ _ _ _ _ c.is_full.ensures c.loop-next.invariant.frames_places c.in_ok-may_start-in-Start.ensures c.loop-next.invariant.counted in
     let l : c.loop-next.steps < c.args.fuel = free.0 in
     omega arith
 
 pub returns-in_err-next-in-Start : goal.returns-in_err-next-in-Start
 returns-in_err-next-in-Start g c =
-    let free = admits _ _ _ _ _ _ _ c.is_full.ensures c.loop-next.invariant.frames_places c.in_ok-admit-in-Start.ensures c.loop-next.invariant.counted in
+    let free = room_to_start _ _ _ _ _ _ _ c.is_full.ensures c.loop-next.invariant.frames_places c.in_ok-may_start-in-Start.ensures c.loop-next.invariant.counted in
     ends_stop _ _ _ _ _ _ (Err c.in_err-next-in-Start.field-0.0) (live c.start.new.frames) _ _ _ _
     (goes_start _ _ _ _ _ _ _ _ _ _ _ _ c.loop-next.invariant.rest
     c.in-Start.node c.in-Start.scope (ap Ok c.in-Start.is) (Err c.in_err-next-in-Start.field-0.0) _ (c.in_err-next-in-Start.ensures.step (cells g.K.Number.value (live c.loop-next.cells))) free.0 free.1) _ _ c.from_residual-in_err-next-in-Start.ensures.1 refl
 
 pub loop-next-smaller-in_ok-next-in-Start : goal.loop-next-smaller-in_ok-next-in-Start
 loop-next-smaller-in_ok-next-in-Start g c =
-    let free = admits _ _ _ _ _ _ _ c.is_full.ensures c.loop-next.invariant.frames_places c.in_ok-admit-in-Start.ensures c.loop-next.invariant.counted in
+    let free = room_to_start _ _ _ _ _ _ _ c.is_full.ensures c.loop-next.invariant.frames_places c.in_ok-may_start-in-Start.ensures c.loop-next.invariant.counted in
     falls_start _ _ _ _ _ _ _ _ _ _ _ _ c.loop-next.invariant.rest
     c.in-Start.node c.in-Start.scope (ap Ok c.in-Start.is) (Ok c.in_ok-next-in-Start.next) _ (c.in_ok-next-in-Start.ensures.step (cells g.K.Number.value (live c.loop-next.cells))) free.0
 
 pub loop-next-preserved-in_ok-next-in-Start : goal.loop-next-preserved-in_ok-next-in-Start
 loop-next-preserved-in_ok-next-in-Start g c =
-    let free = admits _ _ _ _ _ _ _ c.is_full.ensures c.loop-next.invariant.frames_places c.in_ok-admit-in-Start.ensures c.loop-next.invariant.counted in
+    let free = room_to_start _ _ _ _ _ _ _ c.is_full.ensures c.loop-next.invariant.frames_places c.in_ok-may_start-in-Start.ensures c.loop-next.invariant.counted in
     let l : c.loop-next.steps < c.args.fuel = free.0 in
     record {
       counted = omega arith;
