@@ -1,10 +1,11 @@
 // The lines of standard input that a station takes: calls of its seats.
 use super::numerals::natural;
 use std::str::FromStr;
+use thiserror::Error;
 
 // A call of a seat.
 #[derive(Clone, Copy)]
-pub enum Call<K> {
+pub(crate) enum Call<K> {
     Post {
         seat: usize,
         channel: usize,
@@ -21,30 +22,39 @@ pub enum Call<K> {
     },
 }
 
-// The call that a text says.
-pub(crate) fn parse<K: FromStr>(text: &str) -> Option<Call<K>>
+// A text says no call of a seat.
+#[derive(Debug, Drop, Error)]
+#[error("no call of a seat")]
+pub(crate) struct NoCall;
+
+impl<K: FromStr> FromStr for Call<K>
 where
     K::Err: Drop,
 {
-    let mut words = text.split_whitespace();
-    let name = words.next()?;
-    let seat = natural(words.next()?)?;
-    let target = natural(words.next()?)?;
-    match (name, words.next(), words.next()) {
-        ("post", Some(number), None) => Some(Call::Post {
-            seat,
-            channel: target,
-            number: number.parse().ok()?,
-        }),
-        ("read", None, None) => Some(Call::Read {
-            seat,
-            channel: target,
-        }),
-        ("run", Some(fuel), None) => Some(Call::Run {
-            seat,
-            entry: target,
-            fuel: natural(fuel)?,
-        }),
-        _ => None,
+    type Err = NoCall;
+
+    // The call that a text says.
+    fn from_str(text: &str) -> Result<Call<K>, NoCall> {
+        let mut words = text.split_whitespace();
+        let name = words.next().ok_or(NoCall)?;
+        let seat = words.next().and_then(natural).ok_or(NoCall)?;
+        let target = words.next().and_then(natural).ok_or(NoCall)?;
+        match (name, words.next(), words.next()) {
+            ("post", Some(number), None) => Ok(Call::Post {
+                seat,
+                channel: target,
+                number: number.parse().map_err(|_| NoCall)?,
+            }),
+            ("read", None, None) => Ok(Call::Read {
+                seat,
+                channel: target,
+            }),
+            ("run", Some(fuel), None) => Ok(Call::Run {
+                seat,
+                entry: target,
+                fuel: natural(fuel).ok_or(NoCall)?,
+            }),
+            _ => Err(NoCall),
+        }
     }
 }

@@ -9,6 +9,7 @@ use typing::rules::node_type;
 pub(crate) fn barred<P: Policy>(policy: &P, set: usize, to: usize) -> Option<u32> {
     (0..policy.labels()).find(|from| {
         let flows = u32::try_from(to).is_ok_and(|to| policy.may_flow(*from, to));
+        // std has no From<u32> for usize.
         has(*from as usize, set) && !flows
     })
 }

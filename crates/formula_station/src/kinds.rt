@@ -5,7 +5,7 @@ use thiserror::Error;
 
 // Which kind of numbers a command asks for.
 #[derive(Clone, Copy)]
-pub enum Kind {
+pub(crate) enum Kind {
     Millimetres,
     Metres,
 }
@@ -13,7 +13,7 @@ pub enum Kind {
 // A word names no kind of numbers.
 #[derive(Debug, Drop, Error)]
 #[error("the kind of numbers is mm or m")]
-pub struct UnknownKind;
+pub(crate) struct UnknownKind;
 
 impl FromStr for Kind {
     type Err = UnknownKind;

@@ -10,7 +10,7 @@ use policy::{Clearances, PairList, Policy};
 
 // A pair list, or clearances.
 #[derive(Drop)]
-pub enum Listed {
+pub(crate) enum Listed {
     Pairs(PairList),
     Clearances(Clearances),
 }

@@ -71,6 +71,7 @@ enum Command<'a> {
 
 // The command that the words after the program's name say.
 fn command_of<'a>(words: &[&'a str]) -> Option<Command<'a>> {
+    // No FromStr: it reads one text, and a command is several words, which it borrows.
     match *words {
         ["--help" | "-h" | "help"] => Some(Command::Help),
         ["check", sheet, policy] => Some(Command::Check { sheet, policy }),

@@ -2,7 +2,7 @@
 // 'rank LABEL RANK' and 'compartments LABEL SET' lines of clearances, and 'revoke A B' lines last.
 use super::files::read_or_tell;
 use super::listed::Listed;
-use super::policy_lines::{Line, parse};
+use super::policy_lines::Line;
 use policy::{Clearances, Narrowed, PairList, Refusal};
 use std::{fs, io};
 use thiserror::Error;
@@ -58,7 +58,7 @@ fn revoking(mut policy: Narrowed<Listed>, line: Line) -> Result<Narrowed<Listed>
 
 // The policy with one line more.
 fn with_line(reading: Option<Reading>, text: &str) -> Result<Reading, Fault> {
-    let line = parse(text).ok_or(Fault::Malformed)?;
+    let line = text.parse::<Line>().map_err(|_| Fault::Malformed)?;
     Ok(match (reading, line) {
         (None, _) => Reading::Listing(begun(line)?),
         (Some(Reading::Listing(listed)), Line::Revoke { from: _, to: _ }) => {

@@ -25,6 +25,7 @@ fn tell_reading(rt: &HostRuntime, refusal: TextRefusal) -> io::Result<()> {
 
 // A row as it would stand in a text.
 fn print_text(rt: &HostRuntime, rows: &[Row], k: usize) -> io::Result<()> {
+    // The text is the program's own, and is printed at this one place.
     match rows.get(k) {
         Some(row) => {
             let letter = row.letter;
@@ -103,6 +104,7 @@ fn tell_admission<P: Policy>(
 
 // Answers the calls of the input over an admitted sheet: whether a station was opened.
 fn serve(rt: &HostRuntime, sheet: Admitted, kind: Kind) -> anyhow::Result<bool> {
+    // This match stands in trial_lines too: each arm calls another instance of a generic function.
     match kind {
         Kind::Millimetres => station_lines::serve::<Millimetres>(rt, sheet),
         Kind::Metres => station_lines::serve::<Metres>(rt, sheet),
@@ -111,6 +113,7 @@ fn serve(rt: &HostRuntime, sheet: Admitted, kind: Kind) -> anyhow::Result<bool> 
 
 // Tells how many types, sites, nodes and entries there are.
 fn tell_counts(rt: &HostRuntime, shaped: &Shaped) -> io::Result<()> {
+    // The text is the program's own, and is printed at this one place.
     let counts = shaped.counts();
     let (types, sites) = (counts.types, counts.sites);
     let (nodes, entries) = (counts.nodes, counts.entries);

@@ -1,5 +1,5 @@
 // An open station, and the answers to the calls of its seats, a line each.
-use super::call_lines::{Call, parse};
+use super::call_lines::Call;
 use super::work::{new_areas, tell_report};
 use admission::Admitted;
 use evaluator::Report;
@@ -102,7 +102,7 @@ where
     if line.trim().is_empty() {
         return Ok(());
     }
-    let Some(call) = parse::<K>(line) else {
+    let Ok(call) = line.parse::<Call<K>>() else {
         return tell_malformed(rt, line);
     };
     match make(station, areas, call) {

@@ -10,18 +10,34 @@ use shaping::Shaped;
 use std::fmt::Display;
 use std::io;
 use std::io::{BufRead, BufReader};
+use std::str::FromStr;
+use thiserror::Error;
 
-// The entry and the fuel of a line 'trial ENTRY FUEL'.
-fn parse(line: &str) -> Option<(usize, usize)> {
-    let mut words = line.split_whitespace();
-    if words.next()? != "trial" {
-        return None;
-    }
-    let entry = natural(words.next()?)?;
-    let fuel = natural(words.next()?)?;
-    match words.next() {
-        Some(_) => None,
-        None => Some((entry, fuel)),
+// A trial of an entry, as a line 'trial ENTRY FUEL' says it.
+#[derive(Clone, Copy)]
+struct Trial {
+    entry: usize,
+    fuel: usize,
+}
+
+// A text says no trial of an entry.
+#[derive(Debug, Drop, Error)]
+#[error("no trial of an entry")]
+struct NoTrial;
+
+impl FromStr for Trial {
+    type Err = NoTrial;
+
+    // The trial that a text says.
+    fn from_str(text: &str) -> Result<Trial, NoTrial> {
+        let mut words = text.split_whitespace();
+        match (words.next(), words.next(), words.next(), words.next()) {
+            (Some("trial"), Some(entry), Some(fuel), None) => Ok(Trial {
+                entry: natural(entry).ok_or(NoTrial)?,
+                fuel: natural(fuel).ok_or(NoTrial)?,
+            }),
+            _ => Err(NoTrial),
+        }
     }
 }
 
@@ -32,7 +48,7 @@ fn answer<K: Number + Display>(
     areas: &mut WorkAreas<K>,
     line: &str,
 ) -> io::Result<()> {
-    let Some((entry, fuel)) = parse(line) else {
+    let Ok(Trial { entry, fuel }) = line.parse::<Trial>() else {
         println!(rt; "malformed")?;
         return eprintln!(rt; "a trial is 'trial ENTRY FUEL': {line}");
     };
@@ -70,6 +86,7 @@ pub(crate) fn run(rt: &HostRuntime, path: &str, kind: &str) -> anyhow::Result<bo
     let Some(shaped) = sheet_file::shape(rt, &rows)? else {
         return Ok(false);
     };
+    // This match stands in sheet_file too: each arm calls another instance of a generic function.
     match kind {
         Kind::Millimetres => answers::<Millimetres>(rt, &shaped)?,
         Kind::Metres => answers::<Metres>(rt, &shaped)?,

@@ -9,7 +9,7 @@ use std::io;
 
 // The work areas of a run.
 #[derive(Drop)]
-pub struct Areas<K> {
+pub(crate) struct Areas<K> {
     pending: Vec<Frame<K>>,
     bound: Vec<Binding<K>>,
     held: Vec<Cell<K>>,
@@ -51,6 +51,7 @@ pub(crate) fn tell_report<K: Number + Display>(
     rt: &HostRuntime,
     report: Report<K>,
 ) -> io::Result<()> {
+    // The text is the program's own, and is printed at this one place.
     let ending = report.ending.number();
     let number = report.number;
     let steps = report.steps;
