@@ -104,6 +104,7 @@ pub(crate) fn run_entry<K: Number>(
 /// Runs an entry of a shaped sheet whose sites hold the numbers given: what the run tells, and what the
 /// sites hold after it, is what the definition says. Both depend on the sheet, the entry, the fuel and
 /// the numbers alone, so on nothing that the work areas held before.
+// Entry and fuel stay two numbers, as in the calls of a history: a struct of them would be taken apart at once.
 pub fn evaluate<K: Number>(
     sheet: &Shaped,
     numbers: &mut [K],

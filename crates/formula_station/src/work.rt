@@ -1,7 +1,9 @@
 // Work areas of full size for runs, and what a run tells.
 use evaluation::{Ending, Stop};
 use evaluator::Report;
-use machine::{Binding, Cell, Frame, Stage, Value, WorkAreas};
+use machine::{
+    Binding, Cell, Frame, MOST_BINDINGS, MOST_CELLS, MOST_PENDING, Stage, Value, WorkAreas,
+};
 use number::Number;
 use std::alloc::{AllocError, Global};
 use std::fmt::Display;
@@ -26,7 +28,8 @@ impl<K> Areas<K> {
     }
 }
 
-// Work areas of the lengths that are enough for every sheet.
+// Work areas of the lengths that are enough for every sheet. What they hold at first is anybody's choice: no
+// answer depends on it.
 pub(crate) fn new_areas<K: Number>(heap: Global) -> Result<Areas<K>, AllocError> {
     let frame = Frame {
         node: 0,
@@ -40,9 +43,9 @@ pub(crate) fn new_areas<K: Number>(heap: Global) -> Result<Areas<K>, AllocError>
         outer: 0,
     };
     Ok(Areas {
-        pending: vec![in heap; frame; 1024]?,
-        bound: vec![in heap; binding; 1024]?,
-        held: vec![in heap; Cell { site: 0, value }; 544]?,
+        pending: vec![in heap; frame; MOST_PENDING]?,
+        bound: vec![in heap; binding; MOST_BINDINGS]?,
+        held: vec![in heap; Cell { site: 0, value }; MOST_CELLS]?,
     })
 }
 

@@ -25,7 +25,8 @@ fn may_start(spent: bool, full: bool) -> Result<(), Stop>
     Ok(())
 }
 
-// Steps until the root has a value, or the run stops, and counts the steps.
+// Steps until the root has a value, or the run stops, and counts the steps behind a reference, so that errors
+// go by `?`.
 fn value_of<K: Number>(
     table: &Table,
     frames: &mut BoundedStack<Frame<K>>,
