@@ -18,9 +18,17 @@ pub(crate) enum Call {
     Run(usize, usize, usize, (usize, usize, usize)),
 }
 
-// What a call tells: the number of its refusal or of the run's ending (0 for a post or a read that is
-// granted), its number, and its steps.
-pub(crate) type Told = (u8, i32, usize);
+// What a call tells where it is granted: of a read the count; of a run the number of its ending, its
+// count and its steps.
+#[derive(Clone, Copy, Debug, PartialEq, Eq)]
+pub(crate) enum Told {
+    Posted,
+    Held(i32),
+    Ran(u8, i32, usize),
+}
+
+// What a call tells, or the number of the question that it is refused for.
+pub(crate) type Answer = Result<Told, u8>;
 
 fn row(letter: char, a: i64, b: i64, c: i64, d: i64, e: i64) -> Row {
     Row {
@@ -65,14 +73,15 @@ pub(crate) fn in_steps() -> Result<PairList, Fail> {
     Ok(policy)
 }
 
-fn refused(question: Question) -> Told {
-    (question.number(), 0, 0)
+// The number of the question that a call was refused for, where it was refused.
+pub(crate) fn refused<T: Drop>(answer: Result<T, Question>) -> Option<u8> {
+    answer.err().map(|question| question.number())
 }
 
-fn ran(answer: Result<Report<Millimetres>, Question>) -> Told {
+fn ran(answer: Result<Report<Millimetres>, Question>) -> Answer {
     match answer {
-        Ok(report) => (report.ending.number(), report.number.count, report.steps),
-        Err(question) => refused(question),
+        Ok(report) => Ok(Told::Ran(report.ending.number(), report.number.count, report.steps)),
+        Err(question) => Err(question.number()),
     }
 }
 
@@ -84,17 +93,17 @@ fn made(
     pending: &mut [Frame<Millimetres>],
     bound: &mut [Binding<Millimetres>],
     held: &mut [Cell<Millimetres>],
-) -> Told {
+) -> Answer {
     match call {
         Call::Post(seat, channel, count) => {
             match station.post(seat, channel, Millimetres { count }) {
-                Ok(()) => (0, 0, 0),
-                Err(question) => refused(question),
+                Ok(()) => Ok(Told::Posted),
+                Err(question) => Err(question.number()),
             }
         }
         Call::Read(seat, channel) => match station.read(seat, channel) {
-            Ok(number) => (0, number.count, 0),
-            Err(question) => refused(question),
+            Ok(number) => Ok(Told::Held(number.count)),
+            Err(question) => Err(question.number()),
         },
         Call::Run(seat, entry, fuel, (p, b, c)) => {
             let (p, b) = (p.min(pending.len()), b.min(bound.len()));
@@ -109,20 +118,17 @@ fn made(
     }
 }
 
-// Makes calls one by one: each must tell what stands beside it.
+// Makes calls one by one: each must answer what stands beside it.
 fn walk(
     rt: &impl Abort,
     station: &mut Station<Millimetres>,
-    calls: &[(Call, Told)],
+    calls: &[(Call, Answer)],
     pending: &mut [Frame<Millimetres>],
     bound: &mut [Binding<Millimetres>],
     held: &mut [Cell<Millimetres>],
 ) -> Result<(), Fail> {
-    for (call, told) in calls {
-        let answer = made(station, *call, pending, bound, held);
-        assert_eq!(rt; answer.0, told.0);
-        assert_eq!(rt; answer.1, told.1);
-        assert_eq!(rt; answer.2, told.2);
+    for (call, answer) in calls {
+        assert_eq!(rt; made(station, *call, pending, bound, held), *answer);
     }
     Ok(())
 }
@@ -131,7 +137,7 @@ fn walk(
 pub(crate) fn script(
     rt: &impl Abort,
     station: &mut Station<Millimetres>,
-    calls: &[(Call, Told)],
+    calls: &[(Call, Answer)],
 ) -> Result<(), Fail> {
     let value: Value<Millimetres> = Value::Reference(0);
     let stage: Stage<Millimetres> = Stage::Passes;
@@ -150,11 +156,11 @@ pub(crate) fn script(
 }
 
 // Opens a station over the sheet and plays the scenario: the number of the question that the opening
-// is refused for, and 0 where it is opened.
+// is refused for, where it is refused.
 pub(crate) fn play<F: FnOnce(&mut Station<Millimetres>) -> Result<(), Fail>>(
     channels: &mut [Millimetres],
     scenario: F,
-) -> Result<u8, Fail>
+) -> Result<Option<u8>, Fail>
     requires { F.IsAlwaysCallable scenario }
 {
     let rows = sheet();
@@ -169,9 +175,9 @@ pub(crate) fn play<F: FnOnce(&mut Station<Millimetres>) -> Result<(), Fail>>(
     }
     let admitted = admit(shaped, &policy);
     if let Err(question) = Station::check(&admitted, channels) {
-        return Ok(question.number());
+        return Ok(Some(question.number()));
     }
     let mut station = Station::open(admitted, channels);
     scenario(&mut station)?;
-    Ok(0)
+    Ok(None)
 }
