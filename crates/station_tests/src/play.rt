@@ -1,6 +1,5 @@
 // Plays a script of calls over a station, and holds each answer to the one expected.
 use admission::{admit, check as check_admission};
-use evaluator::Report;
 use machine::{Binding, Cell, Frame, Stage, Value, WorkAreas};
 use number::Millimetres;
 use policy::PairList;
@@ -65,24 +64,15 @@ pub(crate) fn sheet() -> [Row; 15] {
 
 // Labels 0, 1 and 2: 0 flows to 1, and 1 to 2.
 pub(crate) fn in_steps() -> Result<PairList, Fail> {
-    let Ok(mut policy) = PairList::new(3) else {
-        return Err(Fail::new("labels"));
-    };
-    let _ = policy.allow(0, 1);
-    let _ = policy.allow(1, 2);
+    let mut policy = PairList::new(3)?;
+    policy.allow(0, 1)?;
+    policy.allow(1, 2)?;
     Ok(policy)
 }
 
 // The number of the question that a call was refused for, where it was refused.
 pub(crate) fn refused<T: Drop>(answer: Result<T, Question>) -> Option<u8> {
     answer.err().map(|question| question.number())
-}
-
-fn ran(answer: Result<Report<Millimetres>, Question>) -> Answer {
-    match answer {
-        Ok(report) => Ok(Told::Ran(report.ending.number(), report.number.count, report.steps)),
-        Err(question) => Err(question.number()),
-    }
 }
 
 // Makes a call with work areas of at most the places lent. The three slices come apart, since parts of
@@ -93,18 +83,13 @@ fn made(
     pending: &mut [Frame<Millimetres>],
     bound: &mut [Binding<Millimetres>],
     held: &mut [Cell<Millimetres>],
-) -> Answer {
-    match call {
+) -> Result<Told, Question> {
+    Ok(match call {
         Call::Post(seat, channel, count) => {
-            match station.post(seat, channel, Millimetres { count }) {
-                Ok(()) => Ok(Told::Posted),
-                Err(question) => Err(question.number()),
-            }
+            station.post(seat, channel, Millimetres { count })?;
+            Told::Posted
         }
-        Call::Read(seat, channel) => match station.read(seat, channel) {
-            Ok(number) => Ok(Told::Held(number.count)),
-            Err(question) => Err(question.number()),
-        },
+        Call::Read(seat, channel) => Told::Held(station.read(seat, channel)?.count),
         Call::Run(seat, entry, fuel, (p, b, c)) => {
             let (p, b) = (p.min(pending.len()), b.min(bound.len()));
             let c = c.min(held.len());
@@ -113,9 +98,10 @@ fn made(
                 bound: &mut bound[0..b],
                 held: &mut held[0..c],
             };
-            ran(station.run(seat, entry, fuel, &mut lent))
+            let report = station.run(seat, entry, fuel, &mut lent)?;
+            Told::Ran(report.ending.number(), report.number.count, report.steps)
         }
-    }
+    })
 }
 
 // Makes calls one by one: each must answer what stands beside it.
@@ -128,7 +114,8 @@ fn walk(
     held: &mut [Cell<Millimetres>],
 ) -> Result<(), Fail> {
     for (call, answer) in calls {
-        assert_eq!(rt; made(station, *call, pending, bound, held), *answer);
+        let told = made(station, *call, pending, bound, held);
+        assert_eq!(rt; told.map_err(|question| question.number()), *answer);
     }
     Ok(())
 }
@@ -166,13 +153,9 @@ pub(crate) fn play<F: FnOnce(&mut Station<Millimetres>) -> Result<(), Fail>>(
     let rows = sheet();
     let policy = in_steps()?;
     let draft = Draft::new(&rows);
-    if draft.check().is_err() {
-        return Err(Fail::new("not shaped"));
-    }
+    draft.check()?;
     let shaped = draft.shape();
-    if check_admission(&shaped, &policy).is_err() {
-        return Err(Fail::new("not admitted"));
-    }
+    check_admission(&shaped, &policy)?;
     let admitted = admit(shaped, &policy);
     if let Err(question) = Station::check(&admitted, channels) {
         return Ok(Some(question.number()));
