@@ -15,6 +15,7 @@ mod operations;
 mod sites;
 mod worked;
 
+// Stands in sheet_tests too: a crate between would need contracts for what tests alone use.
 fn row(letter: char, a: i64, b: i64, c: i64, d: i64, e: i64) -> Row {
     Row {
         letter,
@@ -34,6 +35,7 @@ fn in_steps() -> Result<PairList, Fail> {
     Ok(policy)
 }
 
+// The three types stand in sheet_tests too: a crate between would need contracts for what tests alone use.
 // The fields of a row.
 type Fields = (char, i64, i64, i64, i64, i64);
 
@@ -55,6 +57,7 @@ fn verdict<P: Policy>(rows: &[Row], policy: &P) -> Verdict {
     }
 }
 
+// Stands in sheet_tests too: a crate between would need contracts for what tests alone use.
 fn put(rows: &mut [Row], change: &Change) {
     let (letter, a, b, c, d, e) = change.1;
     if let Some(place) = rows.get_mut(change.0) {

@@ -11,6 +11,7 @@ mod nodes;
 mod sites;
 mod types;
 
+// Stands in admission_tests too: a crate between would need contracts for what tests alone use.
 fn row(letter: char, a: i64, b: i64, c: i64, d: i64, e: i64) -> Row {
     Row {
         letter,
@@ -39,6 +40,7 @@ fn sheet_a() -> [Row; 11] {
     ]
 }
 
+// The three types stand in admission_tests too: a crate between would need contracts for what tests alone use.
 // The fields of a row.
 type Fields = (char, i64, i64, i64, i64, i64);
 
@@ -55,6 +57,7 @@ fn verdict(rows: &[Row]) -> Verdict {
     }
 }
 
+// Stands in admission_tests too: a crate between would need contracts for what tests alone use.
 fn put(rows: &mut [Row], change: &Change) {
     let (letter, a, b, c, d, e) = change.1;
     if let Some(place) = rows.get_mut(change.0) {

@@ -1,13 +1,12 @@
-use super::play::play;
-use evaluator::Report;
+use super::play::{play, refused};
 use machine::{Binding, Cell, Frame, Stage, Value, WorkAreas};
 use number::Millimetres;
-use station::{Question, Station};
+use station::Station;
 use std::process::Abort;
 use std::test::*;
 
-// An opening over so many places, at most five: the number of its refusal.
-fn opened(places: usize) -> Result<u8, Fail> {
+// An opening over so many places, at most five: the number of its refusal, if any.
+fn opened(places: usize) -> Result<Option<u8>, Fail> {
     let mut channels = [Millimetres { count: 9 }; 5];
     play(&mut channels[0..places.min(5)], |_| Ok(()))
 }
@@ -15,18 +14,11 @@ fn opened(places: usize) -> Result<u8, Fail> {
 // Three sites, so three places.
 #[test]
 fn opening_asks_for_a_place_for_each_site(rt: HostRuntime) -> Result<(), Fail> {
-    assert_eq!(rt; opened(0)?, 41);
-    assert_eq!(rt; opened(2)?, 41);
-    assert_eq!(rt; opened(3)?, 0);
-    assert_eq!(rt; opened(5)?, 0);
+    assert_eq!(rt; opened(0)?, Some(41));
+    assert_eq!(rt; opened(2)?, Some(41));
+    assert_eq!(rt; opened(3)?, None);
+    assert_eq!(rt; opened(5)?, None);
     Ok(())
-}
-
-fn number_of(answer: Result<Report<Millimetres>, Question>) -> u8 {
-    match answer {
-        Ok(_) => 0,
-        Err(question) => question.number(),
-    }
 }
 
 // Four runs, of which the last has one place too few for cells.
@@ -35,16 +27,16 @@ fn refuse(
     station: &mut Station<Millimetres>,
     areas: &mut WorkAreas<Millimetres>,
 ) -> Result<(), Fail> {
-    assert_eq!(rt; number_of(station.run(1, 2, 100, areas)), 42);
-    assert_eq!(rt; number_of(station.run(2, 0, 100, areas)), 43);
-    assert_eq!(rt; number_of(station.run(1, 0, 0, areas)), 44);
+    assert_eq!(rt; refused(station.run(1, 2, 100, areas)), Some(42));
+    assert_eq!(rt; refused(station.run(2, 0, 100, areas)), Some(43));
+    assert_eq!(rt; refused(station.run(1, 0, 0, areas)), Some(44));
     let few = areas.held.len().min(543);
     let mut short = WorkAreas {
         pending: &mut *areas.pending,
         bound: &mut *areas.bound,
         held: &mut areas.held[0..few],
     };
-    assert_eq!(rt; number_of(station.run(1, 0, 100, &mut short)), 45);
+    assert_eq!(rt; refused(station.run(1, 0, 100, &mut short)), Some(45));
     Ok(())
 }
 
@@ -89,6 +81,9 @@ fn refused_runs(rt: &impl Abort, station: &mut Station<Millimetres>) -> Result<(
 #[test]
 fn refused_runs_leave_the_areas_as_they_were(rt: HostRuntime) -> Result<(), Fail> {
     let mut channels = [Millimetres { count: 9 }; 3];
-    assert_eq!(rt; play(&mut channels, |station| refused_runs(&rt, station))?, 0);
+    assert_eq!(rt;
+        play(&mut channels, |station| refused_runs(&rt, station))?,
+        None
+    );
     Ok(())
 }

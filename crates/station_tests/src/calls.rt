@@ -1,5 +1,6 @@
 use super::play::Call::{Post, Read, Run};
-use super::play::{Call, Told, play, script};
+use super::play::Told::{Held, Posted, Ran};
+use super::play::{Answer, Call, play, script};
 use number::Millimetres;
 use std::process::Abort;
 use std::test::*;
@@ -7,33 +8,24 @@ use std::test::*;
 // Work areas of just enough places.
 const FULL: (usize, usize, usize) = (1024, 1024, 544);
 
-const GRANTED: Told = (0, 0, 0);
-
-const REFUSED_42: Told = (42, 0, 0);
-
-const REFUSED_43: Told = (43, 0, 0);
-
-const REFUSED_44: Told = (44, 0, 0);
-
-const REFUSED_45: Told = (45, 0, 0);
-
 // Plays a script over an area of five places, three for the sites and two more, with 9 in each: what
 // the five hold in the end.
-fn left(rt: &impl Abort, calls: &[(Call, Told)], counts: [i32; 5]) -> Result<(), Fail> {
+fn left(rt: &impl Abort, calls: &[(Call, Answer)], counts: [i32; 5]) -> Result<(), Fail> {
     let mut channels = [Millimetres { count: 9 }; 5];
-    assert_eq!(rt; play(&mut channels, |station| script(rt, station, calls))?, 0);
-    assert_eq!(rt; channels[0].count, counts[0]);
-    assert_eq!(rt; channels[1].count, counts[1]);
-    assert_eq!(rt; channels[2].count, counts[2]);
-    assert_eq!(rt; channels[3].count, counts[3]);
-    assert_eq!(rt; channels[4].count, counts[4]);
+    assert_eq!(rt;
+        play(&mut channels, |station| script(rt, station, calls))?,
+        None
+    );
+    for (channel, count) in channels.iter().zip(counts) {
+        assert_eq!(rt; channel.count, count);
+    }
     Ok(())
 }
 
 // Opening sets the sites' places to 0, and leaves the extra ones.
 #[test]
 fn opening_clears_the_sites_places(rt: HostRuntime) -> Result<(), Fail> {
-    left(&rt, &[(Read(1, 0), GRANTED)], [0, 0, 0, 9, 9])
+    left(&rt, &[(Read(1, 0), Ok(Held(0)))], [0, 0, 0, 9, 9])
 }
 
 // The worked example: with fuel for three of the four nodes nothing is kept; with fuel for four, it is.
@@ -42,15 +34,15 @@ fn a_copy_wants_four_steps(rt: HostRuntime) -> Result<(), Fail> {
     left(
         &rt,
         &[
-            (Post(1, 0, 250), GRANTED),
-            (Run(1, 0, 3, FULL), (1, 0, 3)),
-            (Read(2, 1), (0, 0, 0)),
-            (Run(1, 0, 4, FULL), (0, 250, 4)),
-            (Read(2, 1), (0, 250, 0)),
-            (Read(1, 1), REFUSED_43),
-            (Run(2, 1, 2, FULL), (0, 250, 2)),
-            (Post(1, 0, -7), GRANTED),
-            (Read(2, 1), (0, 250, 0)),
+            (Post(1, 0, 250), Ok(Posted)),
+            (Run(1, 0, 3, FULL), Ok(Ran(1, 0, 3))),
+            (Read(2, 1), Ok(Held(0))),
+            (Run(1, 0, 4, FULL), Ok(Ran(0, 250, 4))),
+            (Read(2, 1), Ok(Held(250))),
+            (Read(1, 1), Err(43)),
+            (Run(2, 1, 2, FULL), Ok(Ran(0, 250, 2))),
+            (Post(1, 0, -7), Ok(Posted)),
+            (Read(2, 1), Ok(Held(250))),
         ],
         [-7, 250, 0, 9, 9],
     )
@@ -63,15 +55,15 @@ fn posts_ask_in_order(rt: HostRuntime) -> Result<(), Fail> {
     left(
         &rt,
         &[
-            (Post(2, 2, 5), REFUSED_42),
-            (Post(2, 3, 5), REFUSED_42),
-            (Post(0, 2, 5), REFUSED_42),
-            (Post(0, 18446744073709551615, 5), REFUSED_42),
-            (Post(0, 0, 5), REFUSED_43),
-            (Post(2, 0, 5), REFUSED_43),
-            (Post(1, 1, 5), REFUSED_43),
-            (Post(1, 0, 5), GRANTED),
-            (Post(2, 1, 2147483647), GRANTED),
+            (Post(2, 2, 5), Err(42)),
+            (Post(2, 3, 5), Err(42)),
+            (Post(0, 2, 5), Err(42)),
+            (Post(0, 18446744073709551615, 5), Err(42)),
+            (Post(0, 0, 5), Err(43)),
+            (Post(2, 0, 5), Err(43)),
+            (Post(1, 1, 5), Err(43)),
+            (Post(1, 0, 5), Ok(Posted)),
+            (Post(2, 1, 2147483647), Ok(Posted)),
         ],
         [5, 2147483647, 0, 9, 9],
     )
@@ -82,13 +74,13 @@ fn reads_ask_in_order(rt: HostRuntime) -> Result<(), Fail> {
     left(
         &rt,
         &[
-            (Post(2, 1, -2147483648), GRANTED),
-            (Read(2, 2), REFUSED_42),
-            (Read(2, 3), REFUSED_42),
-            (Read(0, 2), REFUSED_42),
-            (Read(1, 1), REFUSED_43),
-            (Read(2, 0), REFUSED_43),
-            (Read(2, 1), (0, -2147483648, 0)),
+            (Post(2, 1, -2147483648), Ok(Posted)),
+            (Read(2, 2), Err(42)),
+            (Read(2, 3), Err(42)),
+            (Read(0, 2), Err(42)),
+            (Read(1, 1), Err(43)),
+            (Read(2, 0), Err(43)),
+            (Read(2, 1), Ok(Held(-2147483648))),
         ],
         [0, -2147483648, 0, 9, 9],
     )
@@ -100,18 +92,18 @@ fn runs_ask_in_order(rt: HostRuntime) -> Result<(), Fail> {
     left(
         &rt,
         &[
-            (Post(1, 0, 4), GRANTED),
-            (Run(0, 2, 0, (0, 0, 0)), REFUSED_42),
-            (Run(0, 0, 0, (0, 0, 0)), REFUSED_43),
-            (Run(2, 0, 0, (0, 0, 0)), REFUSED_43),
-            (Run(1, 1, 1000001, (0, 0, 0)), REFUSED_43),
-            (Run(1, 0, 0, (0, 0, 0)), REFUSED_44),
-            (Run(1, 0, 1000001, (0, 0, 0)), REFUSED_44),
-            (Run(1, 0, 1000000, (1023, 1024, 544)), REFUSED_45),
-            (Run(1, 0, 1000000, (1024, 1023, 544)), REFUSED_45),
-            (Run(1, 0, 1000000, (1024, 1024, 543)), REFUSED_45),
-            (Read(2, 1), (0, 0, 0)),
-            (Run(1, 0, 1000000, FULL), (0, 4, 4)),
+            (Post(1, 0, 4), Ok(Posted)),
+            (Run(0, 2, 0, (0, 0, 0)), Err(42)),
+            (Run(0, 0, 0, (0, 0, 0)), Err(43)),
+            (Run(2, 0, 0, (0, 0, 0)), Err(43)),
+            (Run(1, 1, 1000001, (0, 0, 0)), Err(43)),
+            (Run(1, 0, 0, (0, 0, 0)), Err(44)),
+            (Run(1, 0, 1000001, (0, 0, 0)), Err(44)),
+            (Run(1, 0, 1000000, (1023, 1024, 544)), Err(45)),
+            (Run(1, 0, 1000000, (1024, 1023, 544)), Err(45)),
+            (Run(1, 0, 1000000, (1024, 1024, 543)), Err(45)),
+            (Read(2, 1), Ok(Held(0))),
+            (Run(1, 0, 1000000, FULL), Ok(Ran(0, 4, 4))),
         ],
         [4, 4, 0, 9, 9],
     )
@@ -123,9 +115,9 @@ fn longer_areas_do_as_well(rt: HostRuntime) -> Result<(), Fail> {
     left(
         &rt,
         &[
-            (Post(1, 0, 4), GRANTED),
-            (Run(1, 0, 1, (1030, 1030, 550)), (1, 0, 1)),
-            (Run(1, 0, 100, (1030, 1030, 550)), (0, 4, 4)),
+            (Post(1, 0, 4), Ok(Posted)),
+            (Run(1, 0, 1, (1030, 1030, 550)), Ok(Ran(1, 0, 1))),
+            (Run(1, 0, 100, (1030, 1030, 550)), Ok(Ran(0, 4, 4))),
         ],
         [4, 4, 0, 9, 9],
     )

@@ -1,6 +1,5 @@
 // Plays a script of calls over a station, and holds each answer to the one expected.
 use admission::{admit, check as check_admission};
-use evaluator::Report;
 use machine::{Binding, Cell, Frame, Stage, Value, WorkAreas};
 use number::Millimetres;
 use policy::PairList;
@@ -18,9 +17,17 @@ pub(crate) enum Call {
     Run(usize, usize, usize, (usize, usize, usize)),
 }
 
-// What a call tells: the number of its refusal or of the run's ending (0 for a post or a read that is
-// granted), its number, and its steps.
-pub(crate) type Told = (u8, i32, usize);
+// What a call tells where it is granted: of a read the count; of a run the number of its ending, its
+// count and its steps.
+#[derive(Clone, Copy, Debug, PartialEq, Eq)]
+pub(crate) enum Told {
+    Posted,
+    Held(i32),
+    Ran(u8, i32, usize),
+}
+
+// What a call tells, or the number of the question that it is refused for.
+pub(crate) type Answer = Result<Told, u8>;
 
 fn row(letter: char, a: i64, b: i64, c: i64, d: i64, e: i64) -> Row {
     Row {
@@ -57,23 +64,15 @@ pub(crate) fn sheet() -> [Row; 15] {
 
 // Labels 0, 1 and 2: 0 flows to 1, and 1 to 2.
 pub(crate) fn in_steps() -> Result<PairList, Fail> {
-    let Ok(mut policy) = PairList::new(3) else {
-        return Err(Fail::new("labels"));
-    };
-    let _ = policy.allow(0, 1);
-    let _ = policy.allow(1, 2);
+    let mut policy = PairList::new(3)?;
+    policy.allow(0, 1)?;
+    policy.allow(1, 2)?;
     Ok(policy)
 }
 
-fn refused(question: Question) -> Told {
-    (question.number(), 0, 0)
-}
-
-fn ran(answer: Result<Report<Millimetres>, Question>) -> Told {
-    match answer {
-        Ok(report) => (report.ending.number(), report.number.count, report.steps),
-        Err(question) => refused(question),
-    }
+// The number of the question that a call was refused for, where it was refused.
+pub(crate) fn refused<T: Drop>(answer: Result<T, Question>) -> Option<u8> {
+    answer.err().map(|question| question.number())
 }
 
 // Makes a call with work areas of at most the places lent. The three slices come apart, since parts of
@@ -84,18 +83,13 @@ fn made(
     pending: &mut [Frame<Millimetres>],
     bound: &mut [Binding<Millimetres>],
     held: &mut [Cell<Millimetres>],
-) -> Told {
-    match call {
+) -> Result<Told, Question> {
+    Ok(match call {
         Call::Post(seat, channel, count) => {
-            match station.post(seat, channel, Millimetres { count }) {
-                Ok(()) => (0, 0, 0),
-                Err(question) => refused(question),
-            }
+            station.post(seat, channel, Millimetres { count })?;
+            Told::Posted
         }
-        Call::Read(seat, channel) => match station.read(seat, channel) {
-            Ok(number) => (0, number.count, 0),
-            Err(question) => refused(question),
-        },
+        Call::Read(seat, channel) => Told::Held(station.read(seat, channel)?.count),
         Call::Run(seat, entry, fuel, (p, b, c)) => {
             let (p, b) = (p.min(pending.len()), b.min(bound.len()));
             let c = c.min(held.len());
@@ -104,25 +98,24 @@ fn made(
                 bound: &mut bound[0..b],
                 held: &mut held[0..c],
             };
-            ran(station.run(seat, entry, fuel, &mut lent))
+            let report = station.run(seat, entry, fuel, &mut lent)?;
+            Told::Ran(report.ending.number(), report.number.count, report.steps)
         }
-    }
+    })
 }
 
-// Makes calls one by one: each must tell what stands beside it.
+// Makes calls one by one: each must answer what stands beside it.
 fn walk(
     rt: &impl Abort,
     station: &mut Station<Millimetres>,
-    calls: &[(Call, Told)],
+    calls: &[(Call, Answer)],
     pending: &mut [Frame<Millimetres>],
     bound: &mut [Binding<Millimetres>],
     held: &mut [Cell<Millimetres>],
 ) -> Result<(), Fail> {
-    for (call, told) in calls {
-        let answer = made(station, *call, pending, bound, held);
-        assert_eq!(rt; answer.0, told.0);
-        assert_eq!(rt; answer.1, told.1);
-        assert_eq!(rt; answer.2, told.2);
+    for (call, answer) in calls {
+        let told = made(station, *call, pending, bound, held);
+        assert_eq!(rt; told.map_err(|question| question.number()), *answer);
     }
     Ok(())
 }
@@ -131,7 +124,7 @@ fn walk(
 pub(crate) fn script(
     rt: &impl Abort,
     station: &mut Station<Millimetres>,
-    calls: &[(Call, Told)],
+    calls: &[(Call, Answer)],
 ) -> Result<(), Fail> {
     let value: Value<Millimetres> = Value::Reference(0);
     let stage: Stage<Millimetres> = Stage::Passes;
@@ -150,28 +143,24 @@ pub(crate) fn script(
 }
 
 // Opens a station over the sheet and plays the scenario: the number of the question that the opening
-// is refused for, and 0 where it is opened.
+// is refused for, where it is refused.
 pub(crate) fn play<F: FnOnce(&mut Station<Millimetres>) -> Result<(), Fail>>(
     channels: &mut [Millimetres],
     scenario: F,
-) -> Result<u8, Fail>
+) -> Result<Option<u8>, Fail>
     requires { F.IsAlwaysCallable scenario }
 {
     let rows = sheet();
     let policy = in_steps()?;
     let draft = Draft::new(&rows);
-    if draft.check().is_err() {
-        return Err(Fail::new("not shaped"));
-    }
+    draft.check()?;
     let shaped = draft.shape();
-    if check_admission(&shaped, &policy).is_err() {
-        return Err(Fail::new("not admitted"));
-    }
+    check_admission(&shaped, &policy)?;
     let admitted = admit(shaped, &policy);
     if let Err(question) = Station::check(&admitted, channels) {
-        return Ok(question.number());
+        return Ok(Some(question.number()));
     }
     let mut station = Station::open(admitted, channels);
     scenario(&mut station)?;
-    Ok(0)
+    Ok(None)
 }

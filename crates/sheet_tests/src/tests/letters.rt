@@ -32,16 +32,14 @@ fn plain(heap: Global, types: i64, sites: i64, nodes: i64, entries: i64) -> Resu
     for _ in 0..sites {
         rows.push(row('S', 0, 0, 0, 0, 0))?;
     }
-    for i in 0..nodes {
-        if i < entries {
-            rows.push(row('N', 0, 1, 0, 0, 0))?;
-        } else {
-            let size = i.saturating_sub(entries).saturating_add(2);
-            rows.push(row('N', 6, size, 0, 0, 0))?;
-        }
+    for _ in 0..nodes.min(entries) {
+        rows.push(row('N', 0, 1, 0, 0, 0))?;
     }
-    for e in 1..entries {
-        rows.push(row('E', 0, e.saturating_sub(1), 0, 0, 0))?;
+    for size in 2..nodes.saturating_sub(entries).saturating_add(2) {
+        rows.push(row('N', 6, size, 0, 0, 0))?;
+    }
+    for root in 0..entries.saturating_sub(1) {
+        rows.push(row('E', 0, root, 0, 0, 0))?;
     }
     if entries > 0 {
         rows.push(row('E', 0, nodes.saturating_sub(1), 0, 0, 0))?;

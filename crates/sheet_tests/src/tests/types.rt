@@ -45,8 +45,7 @@ fn types(rt: HostRuntime) {
 fn nested(heap: Global, n: i64, by_result: bool) -> Result<Verdict, Fail> {
     let mut rows = Vec::new(heap);
     rows.push(row('T', 0, 0, 0, 0, 0))?;
-    for t in 1..n {
-        let before = t.saturating_sub(1);
+    for before in 0..n.saturating_sub(1) {
         if by_result {
             rows.push(row('T', 1, 0, 0, before, 0))?;
         } else {
