@@ -20,7 +20,7 @@ pub fn check<P: Policy>(sheet: &Shaped, policy: &P) -> Result<(), Refusal<Questi
     ensures { result ≡ admission_verdict (P.Policy.size policy.now) (P.Policy.flows policy.now) (view sheet.now.table.rows.now) }
 {
     let table = &sheet.table;
-    check_labels(table, policy.labels() as usize)?;
+    check_labels(table, policy.labels() as usize)?; // std has no From<u32> for usize
     check_sites(table, policy)?;
     check_nodes(table)?;
     check_entries(table, policy)

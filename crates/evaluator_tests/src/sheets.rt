@@ -1,6 +1,7 @@
 // Sheets: one type, channel 0, fresh site 1, the nodes, and one entry.
 use sheet::Row;
 
+// The same stands in other crates of tests: a crate between them would need a contract for it.
 fn row(letter: char, a: i64, b: i64, c: i64, d: i64, e: i64) -> Row {
     Row {
         letter,

@@ -1,4 +1,5 @@
-// A set of ordered pairs of numbers below 32: place b of row a says whether it has (a, b).
+// A set of ordered pairs of numbers below 32: place b of row a says whether it has (a, b). Here and at
+// clearances a label is an index by `as`: std has no From<u32> for usize.
 ghost use Rattle.std.specs.Prelude.{◌≡◌, ℕ, ◌<◌, false, ◌||◌, ◌==◌, slice_index_or};
 ghost use Rattle.policy.specs.PairSets.{holds};
 ghost use Rattle.policy.specs.Relations.{pairs_in, with_pair};

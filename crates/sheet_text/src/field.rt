@@ -21,7 +21,7 @@ impl<'a> Field<'a> {
     }
 }
 
-// The letter that these bytes are.
+// The letter that these bytes are: the byte as a char, by its literals.
 pub(crate) fn letter_of(bytes: &[u8]) -> Option<char>
     ensures { result ≡ letter bytes.now }
 {
@@ -67,7 +67,7 @@ fn positive(magnitude: Option<u64>) -> Option<i64>
     u32::try_from(magnitude?).ok().map(i64::from)
 }
 
-// The number that these bytes are.
+// The number that these bytes are: taken apart by its sign, which a text's number may have only in front.
 pub(crate) fn number_of(bytes: &[u8]) -> Option<i64>
     ensures { result ≡ number bytes.now }
 {

@@ -67,7 +67,7 @@ impl<'a, T: Copy> BoundedStack<'a, T> {
         self.elements().get(i).copied()
     }
 
-    /// Puts `x` in place of the element at place `i`, and says whether there was one.
+    /// Puts `x` in place of the element at place `i`, and says whether there was one, as `push` does.
     #[tactic(auto, using(crate::proofs::Lengths::set_live))]
     pub fn set(&mut self, i: usize, x: T) -> bool
         ensures area { SameArea self.old self.new }

@@ -29,6 +29,7 @@ pub(crate) enum Told {
 // What a call tells, or the number of the question that it is refused for.
 pub(crate) type Answer = Result<Told, u8>;
 
+// The same stands in other crates of tests: a crate between them would need a contract for it.
 fn row(letter: char, a: i64, b: i64, c: i64, d: i64, e: i64) -> Row {
     Row {
         letter,
