@@ -7,7 +7,7 @@ use super::section::Section;
 use super::table::Table;
 
 /// The first of 0 to n - 1 that the test says no of.
-// A `find` leaves a goal whose proof is longer than this loop's.
+// A `find` was tried: it leaves a goal that the check does not find by itself.
 pub fn first_no<F: Fn(usize) -> bool>(n: usize, test: F) -> Option<usize>
     requires { F.IsAlwaysCallable test }
     ensures first { (p : ℕ → Bool) → Says F.post test n p → result ≡ first_no p 0 n }
