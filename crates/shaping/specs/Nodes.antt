@@ -17,9 +17,9 @@ literal_fits (negsuc n) = nat_lt n 2147483648
 abbrev pub has_flag : Flag → Flag → Bool
 has_flag flag.Fresh f = is_fresh f
 has_flag flag.Channel f = is_channel f
-has_flag flag.Unknown flag.Fresh = false
-has_flag flag.Unknown flag.Channel = false
-has_flag flag.Unknown flag.Unknown = true
+has_flag (flag.Unknown n) flag.Fresh = false
+has_flag (flag.Unknown n) flag.Channel = false
+has_flag (flag.Unknown n) (flag.Unknown m) = n == m
 
 -- site s exists, and its flag passes the test
 abbrev pub site_flagged : Sheet → (Flag → Bool) → ℕ → Bool

@@ -65,21 +65,21 @@ is_unknown form.Function = false
 is_unknown form.Reference = false
 is_unknown form.Unknown = true
 
--- the flag of a site: 0 fresh, 1 channel
+-- the flag of a site: 0 fresh, 1 channel; any other number is kept, so that no two numbers read as one flag
 abbrev pub flag_of : ℕ → Flag
-flag_of n = cond (n == 0) flag.Fresh (cond (n == 1) flag.Channel flag.Unknown)
+flag_of n = cond (n == 0) flag.Fresh (cond (n == 1) flag.Channel (flag.Unknown n))
 
 -- the site's cells are made by runs
 abbrev pub is_fresh : Flag → Bool
 is_fresh flag.Fresh = true
 is_fresh flag.Channel = false
-is_fresh flag.Unknown = false
+is_fresh (flag.Unknown n) = false
 
 -- the site is a channel
 abbrev pub is_channel : Flag → Bool
 is_channel flag.Fresh = false
 is_channel flag.Channel = true
-is_channel flag.Unknown = false
+is_channel (flag.Unknown n) = false
 
 -- an operation: 0 add, 1 subtract, 2 multiply, 3 divide, 4 less, 5 equal; a number past these reads as the last
 abbrev pub operator_of : ℕ → Operator

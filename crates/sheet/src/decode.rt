@@ -36,7 +36,7 @@ impl From<usize> for Flag {
         match n {
             0 => Flag::Fresh,
             1 => Flag::Channel,
-            _ => Flag::Unknown,
+            _ => Flag::Unknown(n),
         }
     }
 }

@@ -10,12 +10,13 @@ pub enum Form {
     Unknown,
 }
 
-/// Where a site's cells come from: 0 in a row for one that a run makes, 1 for one that a seat posts to.
+/// Where a site's cells come from: 0 in a row for one that a run makes, 1 for one that a seat posts to. Any other
+/// number is kept.
 #[derive(Clone, Copy, Debug, PartialEq, Eq)]
 pub enum Flag {
     Fresh,
     Channel,
-    Unknown,
+    Unknown(usize),
 }
 
 /// The kind of a node: 0 to 9 in a row. As for forms and flags, a case of its own for a number past the
