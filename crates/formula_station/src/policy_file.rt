@@ -32,9 +32,9 @@ fn begun(line: Line) -> Result<Listed, Fault> {
     }
 }
 
-// A list with one line more.
-fn listing(mut listed: Listed, line: Line) -> Result<Listed, Fault> {
-    match (&mut listed, line) {
+// Lists what one line more says.
+fn list(listed: &mut Listed, line: Line) -> Result<(), Fault> {
+    match (listed, line) {
         (Listed::Pairs(pairs), Line::Flow { from, to }) => pairs.allow(from, to)?,
         (Listed::Clearances(clearances), Line::Rank { label, rank }) => {
             clearances.set_rank(label, rank)?
@@ -44,29 +44,41 @@ fn listing(mut listed: Listed, line: Line) -> Result<Listed, Fault> {
         }
         _ => return Err(Fault::Malformed),
     }
-    Ok(listed)
+    Ok(())
 }
 
-// A policy less the pair of one line more.
-fn revoking(mut policy: Narrowed<Listed>, line: Line) -> Result<Narrowed<Listed>, Fault> {
+// Takes the pair of one line more away.
+fn revoke(policy: &mut Narrowed<Listed>, line: Line) -> Result<(), Fault> {
     let Line::Revoke { from, to } = line else {
         return Err(Fault::Malformed);
     };
     policy.revoke(from, to)?;
-    Ok(policy)
+    Ok(())
 }
 
-// The policy with one line more.
-fn with_line(reading: Option<Reading>, text: &str) -> Result<Reading, Fault> {
-    let line = text.parse::<Line>().map_err(|_| Fault::Malformed)?;
-    Ok(match (reading, line) {
-        (None, _) => Reading::Listing(begun(line)?),
-        (Some(Reading::Listing(listed)), Line::Revoke { from: _, to: _ }) => {
-            Reading::Revoking(revoking(Narrowed::new(listed), line)?)
+impl Reading {
+    // From here on pairs are only revoked.
+    fn narrowed(self) -> Reading {
+        match self {
+            Reading::Listing(listed) => Reading::Revoking(Narrowed::new(listed)),
+            revoking => revoking,
         }
-        (Some(Reading::Listing(listed)), _) => Reading::Listing(listing(listed, line)?),
-        (Some(Reading::Revoking(policy)), _) => Reading::Revoking(revoking(policy, line)?),
-    })
+    }
+}
+
+// Reads one line more. The policy is changed where it lies: it has two kibibytes, and to move it at each line
+// took longer than to read the line.
+fn take_line(reading: &mut Option<Reading>, text: &str) -> Result<(), Fault> {
+    let line = text.parse::<Line>().map_err(|_| Fault::Malformed)?;
+    if let (Some(Reading::Listing(_)), Line::Revoke { from: _, to: _ }) = (&*reading, line) {
+        *reading = reading.take().map(|reading| reading.narrowed());
+    }
+    match reading {
+        None => *reading = Some(Reading::Listing(begun(line)?)),
+        Some(Reading::Listing(listed)) => list(listed, line)?,
+        Some(Reading::Revoking(policy)) => revoke(policy, line)?,
+    }
+    Ok(())
 }
 
 // Tells of a line that was not taken.
@@ -90,12 +102,9 @@ fn read(rt: &HostRuntime, text: &str) -> io::Result<Option<Narrowed<Listed>>> {
         if line.trim().is_empty() {
             continue;
         }
-        match with_line(reading, line) {
-            Ok(next) => reading = Some(next),
-            Err(fault) => {
-                tell(rt, fault, number, line)?;
-                return Ok(None);
-            }
+        if let Err(fault) = take_line(&mut reading, line) {
+            tell(rt, fault, number, line)?;
+            return Ok(None);
         }
     }
     match reading {
