@@ -106,7 +106,8 @@ fn run(rt: &HostRuntime, command: Command) -> anyhow::Result<bool> {
 
 // Does what its arguments ask: status 0 where everything was granted.
 fn main(rt: HostRuntime) -> anyhow::Result<ExitCode> {
-    let args: Vec<String> = env::args(&rt)?.skip(1).collect(rt.alloc())?;
+    // no command has five words, and of more no more is kept
+    let args: Vec<String> = env::args(&rt)?.skip(1).take(5).collect(rt.alloc())?;
     let words: Vec<&str> = args.iter().map(|word| word.as_str()).collect(rt.alloc())?;
     let granted = match command_of(&words) {
         Some(command) => run(&rt, command)?,
