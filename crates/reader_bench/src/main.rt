@@ -22,13 +22,13 @@ const BLANK: Row = Row {
 
 // A sum that tells tables apart.
 fn table_sum(table: &[Row]) -> i64 {
-    table
-        .iter()
-        .flat_map(|row| {
-            let letter = i64::from(u32::from(row.letter));
-            [letter, row.a, row.b, row.c, row.d, row.e]
-        })
-        .fold(0i64, |sum, x| sum.wrapping_mul(31).wrapping_add(x))
+    // A `flat_map` to one fold was measured: it took more than twice the time.
+    table.iter().fold(0i64, |sum, row| {
+        let letter = i64::from(u32::from(row.letter));
+        [letter, row.a, row.b, row.c, row.d, row.e]
+            .iter()
+            .fold(sum, |sum, x| sum.wrapping_mul(31).wrapping_add(*x))
+    })
 }
 
 // Reads a text: the answer, and how many nanoseconds it took.
